@@ -3,8 +3,8 @@
 
 usage: callers.py BENCH_PARTS PLAIN RUNS INPUT..
 
-  passes  the proved router, called by passes
-  Mutex   the same proved journal, under the Mutex of the proved standard library
+  passes  the router, called by passes
+  Mutex   the same journal, under the Mutex of the kit's standard library
   plain   the plain router with its history, under Rust's std::sync::Mutex
 
 Each thread enters the events of an input's round again and again, until the history has nearly 1,000,000 entries. Where the

@@ -1,5 +1,5 @@
 #!/usr/bin/env python3
-"""Compares the proved machines with plain ones on the same routes: first what they say, and then their time.
+"""Compares the machines of the product with plain ones on the same routes: first what they say, and then their time.
 
 usage: machines.py BENCH_PARTS PLAIN C RUNS INPUT=ROUNDS..
        machines.py BENCH_PARTS PLAIN C instructions INPUT=ROUNDS..

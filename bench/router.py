@@ -1,5 +1,5 @@
 #!/usr/bin/env python3
-"""Compares the proved router with the plain one on the same events: first what they say, and then their time.
+"""Compares the router of the product with the plain one on the same events: first what they say, and then their time.
 
 usage: router.py BENCH_PARTS PLAIN RUNS INPUT=ROUNDS..
 

@@ -1,6 +1,7 @@
 #!/usr/bin/env bash
-# Builds the proved programs and the plain one, checks that they answer the same, and prints their times and ratios:
-# of `ncroute eval`, `run`, `domain` and `check` as a whole, of the machines alone, or of the router alone.
+# Builds the programs and the plain one, checks that they answer the same, and prints their times and ratios: of `ncroute eval`, `run`, `domain` and
+# `check` as a whole, of the machines alone, or of the router alone. `ncroute` and `ncimport` are proved; `bench_parts` is built without proofs, over
+# the sources of the crates that the gate proves.
 #
 # usage: bench/run.sh [table|eval|check|machines|instructions|bird|router|endless|callers|script|save|domain|lookup|diff|names|imports|hostile|library]     (without a word: eval and machines)
 #   table prints the first table of README.md: the instructions of eval, check and run on all inputs; with ROUNDS=N their times too.
@@ -17,7 +18,7 @@
 #   hostile times commands on inputs that are made to take long
 #   library times calls of the library for C beside the same runs in Rattle; FILTER_C=PATH names an archive that is built already
 #   NCROUTE=PATH       a proved `ncroute` that is built already, with `ncimport` beside it: then none is built here
-#   BENCH_PARTS=PATH   the same for `bench_parts`
+#   BENCH_PARTS=PATH   a `bench_parts` that is built already
 #   ROUNDS=N           how often each program is run on each input (7)
 #   ROUTES=N           the number of route lines of each input of `eval` (200,000, of straight_filter 100,000)
 set -eu
@@ -65,8 +66,8 @@ need_ncimport() {
 # Sees to it that BENCH_PARTS names a program.
 need_bench_parts() {
     if [ -z "${BENCH_PARTS:-}" ]; then
-        build bench_parts tables 0
-        BENCH_PARTS="$bench/../crates/bench_parts/out/bench_parts"
+        BENCH_PARTS="$folder/bench_parts"
+        "$bench/../scripts/build_unproved.py" bench_parts "$BENCH_PARTS"
     fi
 }
 

@@ -36,8 +36,8 @@ TABLES = {
 OTHER_CODES = ["G1", "G2", "G3"]
 # What documents show in Rattle: the document, how far it is indented there, its text, and the test that has it word for word.
 SHOWN = (
-    ("docs/SESSIONS.md", "", r"(?ms)^/// A link over two streams\..*?^}\n\nimpl.*?^}\n", "crates/test_calls/src/channels.rt"),
-    ("docs/EMBEDDING.md", "    ", r"(?ms)^/// The metric that a filter gives a route .*?^}\n", "crates/test_calls/src/embedding_tests.rt"),
+    ("docs/SESSIONS.md", "", r"(?ms)^/// A link over two streams\..*?^}\n\nimpl.*?^}\n", "tests/calls/channels.rattle"),
+    ("docs/EMBEDDING.md", "    ", r"(?ms)^/// The metric that a filter gives a route .*?^}\n", "tests/calls/embedding_tests.rattle"),
 )
 # What docs/PROMISES.md names beside what the sources define: commands and programs, a mark, a variable, a field, and a trait of Rust.
 OTHER_NAMES = set("changes diff eval failures history json kill lint socat test NCF2 NCROUTE_SIZE unsent Send".split())

@@ -188,7 +188,7 @@ def example(begin):
 
 
 def check_document(library):
-    """The examples of the page on filters in other programs; that in Rattle is a test of `test_calls`."""
+    """The examples of the page on filters in other programs; that in Rattle is a test of tests/calls/."""
     source, command = library.folder / "it.c", Program()
     source.write_text(example("#include <gomthau_filter.h>")[0])
     library.environment["PATH"] = command.environment()["PATH"]

@@ -3,18 +3,18 @@
 asks for memory what it answered, how many allocations were refused, and at last 'N passed, M failed'.
 
 usage: NCROUTE=PATH scripts/check_memory.py [NAME..]
-       (NAMEs: `calls` for the tests of test_calls that are swept, `runs` for runs of the program; without them both)
+       (NAMEs: `calls` for the tests of tests/calls/ that are swept, `runs` for runs of the program; without them both)
+       TEST_CALLS=PATH   where the tests are, or are to be built without proofs if they are not there
 
-The tests are crates/test_calls/out/test_calls_tests, which the gate and `rt test` leave there; where there are none, `rt test` builds them. Swept are
-those of the modules `memory` and `memory_routers`, and those of the lock.
+Swept are the tests of the modules `memory` and `memory_routers`, and those of the lock.
 
 A test that meets a refused allocation ends with the error that it was handed (at once, by `some` or `done` of its module `asserts`, or after it made
 the refused call again; then it also says what the call answered). A test that passes all the same did without the memory.
 Anything else is a fault: a wrong answer (a failed assertion, or an expectation, which is told without `error: `), a bad access, a test that does not
 end within five minutes.
 
-Tests and program are those that the gate has built, under a small library that is loaded before the C library and refuses one allocation: all of them
-are tried in a minute. `rt try --test --fail-alloc` takes one number a run, and a run takes half a minute.
+Tests and program run under a small library that is loaded before the C library and refuses one allocation: all of them are tried in a minute.
+`rt try --test --fail-alloc` takes one number a run, and a run takes half a minute.
 
 A run of the program that meets one ends with status 1 and the code of what was refused, and has written the first lines of its whole answer,
 each whole; or it did without, and ended as ever. `net` meets a refusal also where its threads have ended and it replays what came of them.
@@ -30,6 +30,7 @@ import subprocess
 import sys
 import tempfile
 
+from lib.calls import NotBuilt, built, listed
 from lib.counts import Counts, NotRun
 from lib.processes import preloaded
 from lib.program import TOP, named
@@ -91,15 +92,6 @@ class Sweep:
             first = block.stop
 
 
-def built_tests():
-    """The path of the built tests."""
-    folder = TOP / "crates" / "test_calls"
-    tests = folder / "out" / "test_calls_tests"
-    if not tests.exists():
-        subprocess.run(["rt", "test"], cwd=folder, check=True, stdout=subprocess.DEVNULL)
-    return tests
-
-
 def is_refusal(status, errors):
     """Whether a test ended with the error that it was handed, or that a call in it answered."""
     return status == -signal.SIGABRT and re.search(rb"(?m)^error: ", errors)
@@ -107,10 +99,9 @@ def is_refusal(status, errors):
 
 def sweep_tests(sweep, pool, counts):
     """Sweeps each test of the modules, and then says how often each of the calls was refused memory and what it answered. Each has to be."""
-    tests, answers = built_tests(), collections.defaultdict(collections.Counter)
+    tests, answers = built("test_calls", sweep.folder), collections.defaultdict(collections.Counter)
     all_refused = without = 0
-    listed = subprocess.run([tests, "--list"], capture_output=True, check=True)
-    for name in re.findall(r"(?m)^(.+): test$", (listed.stdout + listed.stderr).decode()):
+    for name in listed(tests):
         if name.split("::")[-2] not in MODULES:
             continue
         faults = []
@@ -184,11 +175,13 @@ def main():
     # Thousands of tests end by an abort, and are not to leave a core each.
     resource.setrlimit(resource.RLIMIT_CORE, (0, resource.getrlimit(resource.RLIMIT_CORE)[1]))
     with tempfile.TemporaryDirectory() as folder, concurrent.futures.ThreadPoolExecutor(AT_ONCE) as pool:
-        try:
-            for name in names:
+        for name in names:
+            try:
                 (sweep_runs if name == "runs" else sweep_tests)(Sweep(folder), pool, counts)
-        except NotRun as why:
-            counts.skip("allocations", str(why))
+            except NotRun as why:
+                counts.skip(f"allocations of {name}", str(why))
+            except NotBuilt as why:
+                counts.judge(f"allocations of {name}", str(why))
     counts.finish()
 
 

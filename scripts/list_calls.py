@@ -19,16 +19,13 @@ A crate's wrong bodies are edits that turn the meaning of one of its functions, 
 the gate tries each time, and then those of `wrong-bodies/` ([what they show](PROMISES.md#wrong-bodies)).
 
 `scripts/list_calls.py` makes this page from the sources."""
-# Crates whose calls nobody uses outside of tests and measurements.
-LEFT_OUT = {"test_calls", "bench_parts"}
 NAME = r"[A-Za-z_]\w*"
 
 
 def crates():
     """The crates in the order of crates.txt, each after those that it stands on."""
     lines = (TOP / "crates.txt").read_text(encoding="utf-8").split("\n")
-    names = [re.match(r"(\w+)[^:]*:", line)[1] for line in lines if re.match(r"\w", line)]
-    return [name for name in names if name not in LEFT_OUT]
+    return [re.match(r"(\w+)[^:]*:", line)[1] for line in lines if re.match(r"\w", line)]
 
 
 def exported(library):

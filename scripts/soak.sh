@@ -1,15 +1,15 @@
 #!/usr/bin/env bash
 # Runs the soak: one router after another, each called by four threads over links that fail, and its journal checked at the end.
-# crates/test_calls/src/soak.rt says what is checked. The last line is `test result: ok`.
+# tests/calls/soak.rattle says what is checked. The last line is `test result: ok`.
 #
 # usage: scripts/soak.sh [SECONDS [SEED]]      (60 seconds, seed 1)
-#   SOAK=PATH   the tests (crates/test_calls/out/test_calls_tests); without it `rt test` proves, builds and runs them first
+#   TEST_CALLS=PATH   the tests of tests/calls/, or where they are to be built, without proofs, if they are not there
 set -eu
 top="$(cd "$(dirname "$0")/.." && pwd)"
-soak="${SOAK:-$top/crates/test_calls/out/test_calls_tests}"
-if [ -z "${SOAK:-}" ]; then
-    (cd "$top/crates/test_calls" && rt test) >&2
+if [ -z "${TEST_CALLS:-}" ]; then
+    folder="$(mktemp -d)"
+    trap 'rm -rf "$folder"' EXIT
+    TEST_CALLS="$folder/test_calls"
 fi
-test="$("$soak" --list 2>&1 | sed -n 's/\(.*routers_are_soaked\): test$/\1/p')"
-[ -n "$test" ] || { echo "$soak has no test routers_are_soaked" >&2; exit 1; }
-SOAK_SECONDS="${1:-60}" SOAK_SEED="${2:-1}" "$soak" "$test"
+[ -e "$TEST_CALLS" ] || "$top/scripts/build_unproved.py" test_calls "$TEST_CALLS"
+SOAK_SECONDS="${1:-60}" SOAK_SEED="${2:-1}" "$TEST_CALLS" soak::routers_are_soaked

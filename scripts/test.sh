@@ -1,7 +1,7 @@
 #!/usr/bin/env bash
-# The test command: proves every crate from nothing, tries the must-fail edits, runs all tests and the program, and then the parts that
-# scripts/parts.txt lists. The last line is 'N passed, M failed', the sum of all, and ', K skipped' behind it where something could not be run: a line
-# says 'not run: WHY' of each. With CI=true in the environment it has failed.
+# The test command: proves every crate from nothing, tries the must-fail edits, runs the programs, and then the parts that scripts/parts.txt lists.
+# The last line is 'N passed, M failed', the sum of all, and ', K skipped' behind it where something could not be run: a line says 'not run: WHY' of
+# each. With CI=true in the environment it has failed.
 #
 # usage: scripts/test.sh [--all]      (--all: tries the edits of wrong-bodies/ too)
 #        scripts/test.sh --quick      proves nothing: builds the program without proofs, and runs all parts on it
@@ -19,10 +19,10 @@ usage() {
 }
 
 case "$*" in
-    "") ;;
+    "") unset TEST_CALLS BENCH_PARTS ;;
     --quick)
         is_proved=""
-        unset NCROUTE
+        unset NCROUTE TEST_CALLS BENCH_PARTS
         ;;
     --all)
         # All of it runs in a copy, where those edits stand among the must-fail edits. So the repository stays as it is, however this ends.
@@ -96,6 +96,8 @@ elif [ -z "${NCROUTE:-}" ]; then
     fi
     echo "the build: $((SECONDS - begun)) s"
 fi
+# The tests of tests/calls/ are built once for all parts that need them, by the first of these.
+export TEST_CALLS="${TEST_CALLS:-$folder/test_calls}"
 # Three of the longest parts run beside the others, where there are processors for both. What they say comes behind that of the others.
 beside=""
 if [ "$*" = --quick ] && [ "$(nproc)" -ge 4 ]; then
@@ -106,8 +108,6 @@ fi
 for part in $parts; do
     [[ " $beside " != *" $part "* ]] || continue
     read -ra words <<<"$(sed -nE "s/^$part +\| ([^|]*) \|.*/\1/p" $list)"
-    # `memory` refuses also the allocations of tests, which only a proof builds.
-    [ "$part" != memory ] || [ -n "$is_proved" ] || words+=(runs)
     begun=$SECONDS
     add "scripts/${words[0]}" "${words[@]:1}"
     echo "$part: $((SECONDS - begun)) s"
@@ -117,7 +117,7 @@ if [ -n "$beside" ]; then
     add sed '/^no proof was made/d' "$folder/beside"
 fi
 if [ -z "$is_proved" ]; then
-    echo "no proof was made: \`rt ci\` did not run, nor did the tests of the crates, those whose allocations \`memory\` refuses among them"
+    echo "no proof was made: \`rt ci\` did not run"
 fi
 if [ "$skipped" = 0 ]; then
     echo "$passed passed, $failed failed"
