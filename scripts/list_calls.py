@@ -15,8 +15,8 @@ What each public call is for, in the first sentence of its comment, and the clau
 input. The clauses themselves stand in the source, at the call, in the words of the definitions of `crates/NAME/specs/`. `the clause` is one without a
 name. [PROMISES.md](PROMISES.md) says in sentences what the most important ones come to, and what is only tested.
 
-A crate's wrong bodies are edits that turn the meaning of one of its functions, which the checker has to refuse: first those of `must-fail/`, which
-the gate tries each time, and then those of `wrong-bodies/` ([what they show](PROMISES.md#wrong-bodies)).
+A crate's wrong bodies are edits that turn the meaning of one of its functions, which the checker has to refuse: `scripts/test.sh --edits NAME` tries
+them ([what they show](PROMISES.md#wrong-bodies)).
 
 `scripts/list_calls.py` makes this page from the sources."""
 NAME = r"[A-Za-z_]\w*"
@@ -90,8 +90,8 @@ def rows(name):
 
 
 def wrong_bodies(name):
-    """How many wrong bodies a crate has in each of its two folders."""
-    return [len(list((TOP / "crates" / name / folder).glob("*.edit"))) for folder in ("must-fail", "wrong-bodies")]
+    """How many wrong bodies a crate has."""
+    return len(list((TOP / "crates" / name / "wrong-bodies").glob("*.edit")))
 
 
 def page():
@@ -103,8 +103,7 @@ def page():
             continue
         about = re.match(r"//! (.*(?:\n//! .*)*)", library.read_text(encoding="utf-8"))
         table = list(rows(name))
-        tried, kept = wrong_bodies(name)
-        parts.append(f"## {name}\n\n{sentence(about[1].replace(chr(10) + '//!', '').split()) if about else ''}. Wrong bodies: {tried} and {kept}.")
+        parts.append(f"## {name}\n\n{sentence(about[1].replace(chr(10) + '//!', '').split()) if about else ''}. Wrong bodies: {wrong_bodies(name)}.")
         if table:
             parts.append("\n".join(["| Call | What it does | Clauses |", "|---|---|---|", *table]))
     return "\n\n".join(parts) + "\n"

@@ -1,20 +1,22 @@
 #!/usr/bin/env bash
-# The test command: proves every crate from nothing, tries the must-fail edits, runs the programs, and then the parts that scripts/parts.txt lists.
-# The last line is 'N passed, M failed', the sum of all, and ', K skipped' behind it where something could not be run: a line says 'not run: WHY' of
-# each. With CI=true in the environment it has failed.
+# The test command: proves every crate, builds and runs the programs, and then runs the parts that scripts/parts.txt lists. What an earlier run on this
+# machine proved of the same files is kept, and a line before the last says how many proofs that was. The last line is 'N passed, M failed', the sum of
+# all, and ', K skipped' behind it where something could not be run: a line says 'not run: WHY' of each. With CI=true in the environment it has failed.
 #
-# usage: scripts/test.sh [--all]      (--all: tries the edits of wrong-bodies/ too)
-#        scripts/test.sh --quick      proves nothing: builds the program without proofs, and runs all parts on it
-#        scripts/test.sh PART..       proves nothing: runs the parts named on the program NCROUTE=PATH, or else on one that is built without proofs
+# usage: scripts/test.sh [--all]              (--all: tries all wrong bodies, too)
+#        scripts/test.sh --edits WORD..       tries wrong bodies alone, as scripts/check_edits.py says: NAME.., `--since COMMIT` or `--all`
+#        scripts/test.sh --quick              proves nothing: builds the program without proofs, and runs all parts on it
+#        scripts/test.sh PART..               proves nothing: runs the parts named on the program NCROUTE=PATH, or else on one built without proofs
 set -u
 cd "$(dirname "$0")/.." || exit
 list=scripts/parts.txt
 all_parts="$(sed -nE 's/^([a-z_]+) .*/\1/p' $list | xargs)"
 parts="$all_parts"
 is_proved=yes
+edits=""
 
 usage() {
-    echo "usage: scripts/test.sh [--all | --quick | PART..]     (PART: ${all_parts// /, })" >&2
+    echo "usage: scripts/test.sh [--all | --edits WORD.. | --quick | PART..]     (PART: ${all_parts// /, })" >&2
     exit 2
 }
 
@@ -25,21 +27,11 @@ case "$*" in
         unset NCROUTE TEST_CALLS BENCH_PARTS
         ;;
     --all)
-        # All of it runs in a copy, where those edits stand among the must-fail edits. So the repository stays as it is, however this ends.
-        copy="$(mktemp -d)" || exit
-        trap 'rm -rf "$copy"' EXIT
-        trap 'exit 130' INT TERM
-        tar -c --exclude=./.git --exclude='./crates/*/out' . | tar -x -C "$copy" || exit
-        for edit in "$copy"/crates/*/wrong-bodies/*; do
-            to="${edit%/wrong-bodies/*}/must-fail"
-            if [ -e "$to/${edit##*/}" ]; then
-                echo "${edit#"$copy"/}: must-fail/ has an edit of this name" >&2
-                exit 1
-            fi
-            mkdir -p "$to" && mv "$edit" "$to/" || exit
-        done
-        "$copy/scripts/test.sh"
-        exit
+        edits=yes
+        unset TEST_CALLS BENCH_PARTS
+        ;;
+    --edits*)
+        exec scripts/check_edits.py "${@:2}"
         ;;
     *)
         for part in "$@"; do
@@ -79,6 +71,8 @@ if [ -n "$is_proved" ]; then
         export RT_JOBS
     fi
     add rt ci
+    # What of it was proved in this run, by its own words, and what is kept from earlier ones.
+    proofs="$(sed -nE 's/^rt: ok.*; (done in this run: .*|every proof .*)$/\1/p' "$output" | tail -n 1)"
     # What the gate took so far, by the system's own sum, as bench/GATE.md counts it.
     times >"$output"
     echo "rt ci: $(tail -n 1 "$output") of processor time, in user code and in the system"
@@ -96,6 +90,7 @@ elif [ -z "${NCROUTE:-}" ]; then
     fi
     echo "the build: $((SECONDS - begun)) s"
 fi
+[ -z "$edits" ] || add scripts/check_edits.py --all --write
 # The tests of tests/calls/ are built once for all parts that need them, by the first of these.
 export TEST_CALLS="${TEST_CALLS:-$folder/test_calls}"
 # Three of the longest parts run beside the others, where there are processors for both. What they say comes behind that of the others.
@@ -118,6 +113,8 @@ if [ -n "$beside" ]; then
 fi
 if [ -z "$is_proved" ]; then
     echo "no proof was made: \`rt ci\` did not run"
+else
+    echo "rt ci: ${proofs:-it proved not all}"
 fi
 if [ "$skipped" = 0 ]; then
     echo "$passed passed, $failed failed"
