@@ -5,9 +5,9 @@ ghost use Rattle.domain_reports.specs.Reports as spec;
 ghost use Rattle.domain_reports.specs.Views.{comparison_view};
 
 use crate::failure::Fails;
-use crate::lists::pairs_value;
-use report_formats::push_value;
-use serde_json::{Value, json};
+use crate::lists::{pair_value, pairs_value};
+use report_formats::{ObjectBuilder, push_value};
+use serde_json::Value;
 use std::alloc::{AllocError, Global};
 
 /// What a failure does that it did not do before.
@@ -40,10 +40,17 @@ pub struct ComparisonReport<'a> {
 fn harm_value(alloc: Global, harm: HarmReport) -> Result<Value, AllocError>
     ensures { IfOk result (λ value. view value ≡ spec.harm_data harm) }
 {
-    let (keeps, loses) = (harm.keeps, harm.loses);
     match harm.what {
-        Fails::Link(u, w) => json!(in alloc; {"keeps": keeps, "link": [u, w], "loses": loses}),
-        Fails::Node(x) => json!(in alloc; {"keeps": keeps, "loses": loses, "node": x}),
+        Fails::Link(u, w) => ObjectBuilder::new(alloc)
+            .member("keeps", Value::from(harm.keeps))
+            .try_member("link", pair_value(alloc, u, w))
+            .member("loses", Value::from(harm.loses))
+            .finish(),
+        Fails::Node(x) => ObjectBuilder::new(alloc)
+            .member("keeps", Value::from(harm.keeps))
+            .member("loses", Value::from(harm.loses))
+            .member("node", Value::from(x))
+            .finish(),
     }
 }
 
@@ -62,12 +69,13 @@ fn harms_value(alloc: Global, harms: &[HarmReport]) -> Result<Value, AllocError>
 fn comparison_value(alloc: Global, comparison: &ComparisonReport<'_>) -> Result<Value, AllocError>
     ensures { IfOk result (λ value. view value ≡ spec.comparison_data (comparison_view comparison.now)) }
 {
-    let changed = pairs_value(alloc, comparison.changed)?;
-    let failures = harms_value(alloc, comparison.failures)?;
-    let gained = pairs_value(alloc, comparison.gained)?;
-    let lost = pairs_value(alloc, comparison.lost)?;
-    let size = comparison.size;
-    json!(in alloc; {"changed": changed, "failures": failures, "gained": gained, "lost": lost, "size": size})
+    ObjectBuilder::new(alloc)
+        .try_member("changed", pairs_value(alloc, comparison.changed))
+        .try_member("failures", harms_value(alloc, comparison.failures))
+        .try_member("gained", pairs_value(alloc, comparison.gained))
+        .try_member("lost", pairs_value(alloc, comparison.lost))
+        .member("size", Value::from(comparison.size))
+        .finish()
 }
 
 /// Puts the line of a comparison at the end of `out`.

@@ -8,7 +8,7 @@ use crate::failure::{FailureReport, failures_value};
 use crate::filter::{FilterReport, filters_value};
 use crate::link::{LinkReport, links_value};
 use crate::lists::texts_value;
-use report_formats::{number_or_null, push_value};
+use report_formats::{ObjectBuilder, number_or_null, push_value};
 use serde_json::{Value, json};
 use std::alloc::{AllocError, Global};
 
@@ -78,23 +78,28 @@ fn tables_value(alloc: Global, tables: &[Vec<RouteReport>]) -> Result<Value, All
 fn reach_value(alloc: Global, longest: u16, phases: u16) -> Result<Value, AllocError>
     ensures { IfOk result (λ value. view value ≡ spec.reach_data longest phases) }
 {
-    json!(in alloc; {"longest": longest, "phases": phases})
+    ObjectBuilder::new(alloc)
+        .member("longest", Value::from(longest))
+        .member("phases", Value::from(phases))
+        .finish()
 }
 
 /// A domain as an object.
 pub(crate) fn domain_value(alloc: Global, domain: &DomainReport<'_>) -> Result<Value, AllocError>
     ensures { IfOk result (λ value. view value ≡ spec.domain_data (domain_view domain.now)) }
 {
-    let failures = failures_value(alloc, domain.link_failures, domain.node_failures)?;
-    let filters = filters_value(alloc, domain.filters)?;
-    let links = links_value(alloc, domain.links)?;
-    let prefixes = texts_value(alloc, domain.prefixes)?;
-    let reach = reach_value(alloc, domain.longest, domain.phases)?;
-    let size = domain.size;
-    let tables = tables_value(alloc, domain.tables)?;
-    json!(in alloc; {
-        "failures": failures, "filters": filters, "links": links, "prefixes": prefixes, "reach": reach, "size": size, "tables": tables
-    })
+    ObjectBuilder::new(alloc)
+        .try_member(
+            "failures",
+            failures_value(alloc, domain.link_failures, domain.node_failures),
+        )
+        .try_member("filters", filters_value(alloc, domain.filters))
+        .try_member("links", links_value(alloc, domain.links))
+        .try_member("prefixes", texts_value(alloc, domain.prefixes))
+        .try_member("reach", reach_value(alloc, domain.longest, domain.phases))
+        .member("size", Value::from(domain.size))
+        .try_member("tables", tables_value(alloc, domain.tables))
+        .finish()
 }
 
 /// Puts the line of a domain at the end of `out`.

@@ -3,7 +3,9 @@ ghost use Rattle.std.specs.Prelude.{◌≡◌, IfOk};
 ghost use Rattle.serde_json.specs.View.{view};
 ghost use Rattle.domain_reports.specs.Reports as spec;
 
-use serde_json::{Value, json};
+use crate::lists::pair_value;
+use report_formats::ObjectBuilder;
+use serde_json::Value;
 use std::alloc::{AllocError, Global};
 
 /// What fails.
@@ -36,15 +38,23 @@ pub struct FailureReport {
 fn failure_value(alloc: Global, failure: FailureReport) -> Result<Value, AllocError>
     ensures { IfOk result (λ value. view value ≡ spec.failure_data failure) }
 {
-    let (changed, lost, moved) = (failure.changed, failure.lost, failure.moved);
-    let (rounds, still) = (failure.rounds, failure.still);
     match failure.what {
-        Fails::Link(u, w) => json!(in alloc; {
-            "changed": changed, "link": [u, w], "lost": lost, "moved": moved, "rounds": rounds, "still": still
-        }),
-        Fails::Node(x) => json!(in alloc; {
-            "changed": changed, "lost": lost, "moved": moved, "node": x, "rounds": rounds, "still": still
-        }),
+        Fails::Link(u, w) => ObjectBuilder::new(alloc)
+            .member("changed", Value::from(failure.changed))
+            .try_member("link", pair_value(alloc, u, w))
+            .member("lost", Value::from(failure.lost))
+            .member("moved", Value::from(failure.moved))
+            .member("rounds", Value::from(failure.rounds))
+            .member("still", Value::from(failure.still))
+            .finish(),
+        Fails::Node(x) => ObjectBuilder::new(alloc)
+            .member("changed", Value::from(failure.changed))
+            .member("lost", Value::from(failure.lost))
+            .member("moved", Value::from(failure.moved))
+            .member("node", Value::from(x))
+            .member("rounds", Value::from(failure.rounds))
+            .member("still", Value::from(failure.still))
+            .finish(),
     }
 }
 
@@ -67,7 +77,8 @@ pub(crate) fn failures_value(
 ) -> Result<Value, AllocError>
     ensures { IfOk result (λ value. view value ≡ spec.failures_data links.now nodes.now) }
 {
-    let links = list_value(alloc, links)?;
-    let nodes = list_value(alloc, nodes)?;
-    json!(in alloc; {"links": links, "nodes": nodes})
+    ObjectBuilder::new(alloc)
+        .try_member("links", list_value(alloc, links))
+        .try_member("nodes", list_value(alloc, nodes))
+        .finish()
 }

@@ -5,8 +5,8 @@ ghost use Rattle.domain_reports.specs.Reports as spec;
 ghost use Rattle.domain_reports.specs.Views.{effect_view, filter_view};
 
 use crate::lists::{lines_value, numbers_value};
-use report_formats::{text_or_null, text_value};
-use serde_json::{Value, json};
+use report_formats::{ObjectBuilder, text_or_null, text_value};
+use serde_json::Value;
 use std::alloc::{AllocError, Global};
 
 /// What each distance from some nodes comes to under a filter.
@@ -41,9 +41,13 @@ pub struct FilterReport<'a> {
 fn effect_value(alloc: Global, effect: &Effect) -> Result<Value, AllocError>
     ensures { IfOk result (λ value. view value ≡ spec.effect_data (effect_view effect.now)) }
 {
-    let distances = numbers_value(alloc, effect.distances.as_slice())?;
-    let nodes = numbers_value(alloc, effect.nodes.as_slice())?;
-    json!(in alloc; {"distances": distances, "nodes": nodes})
+    ObjectBuilder::new(alloc)
+        .try_member(
+            "distances",
+            numbers_value(alloc, effect.distances.as_slice()),
+        )
+        .try_member("nodes", numbers_value(alloc, effect.nodes.as_slice()))
+        .finish()
 }
 
 /// Effects as a list.
@@ -61,14 +65,15 @@ fn effects_value(alloc: Global, effects: &[Effect]) -> Result<Value, AllocError>
 fn filter_value(alloc: Global, filter: &FilterReport<'_>) -> Result<Value, AllocError>
     ensures { IfOk result (λ value. view value ≡ spec.filter_data (filter_view filter.now)) }
 {
-    let effects = effects_value(alloc, filter.effects.as_slice())?;
-    let listing = lines_value(alloc, filter.listing)?;
-    let name = text_value(alloc, filter.name)?;
-    let text = text_or_null(alloc, filter.text)?;
-    let (budget, depth, line) = (filter.budget, filter.depth, filter.line);
-    json!(in alloc; {
-        "budget": budget, "depth": depth, "effects": effects, "line": line, "listing": listing, "name": name, "text": text
-    })
+    ObjectBuilder::new(alloc)
+        .member("budget", Value::from(filter.budget))
+        .member("depth", Value::from(filter.depth))
+        .try_member("effects", effects_value(alloc, filter.effects.as_slice()))
+        .member("line", Value::from(filter.line))
+        .try_member("listing", lines_value(alloc, filter.listing))
+        .try_member("name", text_value(alloc, filter.name))
+        .try_member("text", text_or_null(alloc, filter.text))
+        .finish()
 }
 
 /// Filters as a list.

@@ -4,7 +4,7 @@ ghost use Rattle.serde_json.specs.View.{view};
 ghost use Rattle.domain_reports.specs.Reports as spec;
 
 use crate::lists::pair_value;
-use report_formats::number_or_null;
+use report_formats::{ObjectBuilder, number_or_null};
 use serde_json::{Value, json};
 use std::alloc::{AllocError, Global};
 
@@ -33,10 +33,11 @@ fn ends_value(alloc: Global, ends: (Option<usize>, Option<usize>)) -> Result<Val
 fn link_value(alloc: Global, link: LinkReport) -> Result<Value, AllocError>
     ensures { IfOk result (λ value. view value ≡ spec.link_data link) }
 {
-    let exports = ends_value(alloc, link.exports)?;
-    let imports = ends_value(alloc, link.imports)?;
-    let nodes = pair_value(alloc, link.u, link.w)?;
-    json!(in alloc; {"exports": exports, "imports": imports, "link": nodes})
+    ObjectBuilder::new(alloc)
+        .try_member("exports", ends_value(alloc, link.exports))
+        .try_member("imports", ends_value(alloc, link.imports))
+        .try_member("link", pair_value(alloc, link.u, link.w))
+        .finish()
 }
 
 /// Links as a list.
