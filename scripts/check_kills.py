@@ -1,9 +1,13 @@
 #!/usr/bin/env python3
 """Kills `ncroute router --save FOLDER` 200 times at random moments, while one neighbour talks, one comes and goes, and the operator asks and
 replaces a filter; and sees what is left in FOLDER: `ncroute replay` finds all replies right, but for the front of a line at the end of the last
-file, and the entries that the operator knew of a second before are there. Some more runs are longer: there segments are begun and the oldest
-are removed. Prints a line for each run where this does not hold, and at last 'N passed, M failed'. On a machine that lets this script wait a run
-lasts as much longer, and what was known that much sooner has to be there.
+file; as many entries are there as the router's `status` said were saved; and of the operator's calls all that were answered before the last of them
+was entered. Some more runs are longer: there segments are begun and the oldest are removed. Prints a line for each run where this does not hold, and
+at last 'N passed, M failed'.
+
+What was known a second before is saved, but how soon a disk has taken what is written is no matter of the router: a run alone is not judged by that.
+In at least half of all runs it has to be so, where on a machine that lets this script wait, what was known that much sooner has to be there. Each run
+of the longer half goes on until something is saved, however long that takes, up to a minute.
 
 usage: NCROUTE=PATH scripts/check_kills.py [RUNS [LONG [SEED]]]     (PATH: the program; 200 runs and 10 long ones, of seed 1)
 """
@@ -16,7 +20,7 @@ import time
 from lib import histories
 from lib.counts import Counts
 from lib.histories import STATE_END, first_of, replay_ok, wrong_of
-from lib.processes import Delays
+from lib.processes import PATIENCE, Delays
 from lib.program import built
 from lib.routers import Run
 from lib.traffic import BLOCK, FILTERS, Churn, Drain, Flood, end_all, end_of
@@ -30,14 +34,23 @@ BESIDE = 4
 FEW, REST = b"3 0\n4 2\n3 1\n4 3\n" * 20, 0.005
 # Seconds: no long run takes longer.
 LONGEST = 90.0
+# Seconds: a short run lasts for so long at most; one that lasts for half of it goes on until something is saved.
+SHORT = 2.5
+
+
+class Look:
+    """What the operator knew at a time: how many entries there were, and how many of them it had had made."""
+
+    def __init__(self, when, entries, made):
+        self.when, self.entries, self.made = when, entries, made
 
 
 class Operator:
-    """Asks, replaces a filter, and remembers when it knew of how many entries, and when it had had how many entries made."""
+    """Asks, replaces a filter, and remembers what it knew when, and how many entries it was told are saved."""
 
     def __init__(self, run, delays):
         self.run, self.delays, self.begun, self.longest, self.rounds = run, delays, time.monotonic(), 0.0, 0
-        self.known, self.made = [(self.begun, 0)], [(self.begun, 0)]
+        self.made, self.saved, self.looks = 0, 0, [Look(self.begun, 0, 0)]
 
     def seconds(self):
         """How long it has worked."""
@@ -57,16 +70,25 @@ class Operator:
                 lines += [f"load far {FILTERS[self.rounds % 2]}", "import 1 far"]
             for line in lines:
                 answer = self.run.ask(line)
-                if answer.startswith(("route ", "done ")):
-                    self.made.append((time.monotonic(), self.made[-1][1] + 1))
-            at, count = self.known[-1]
-            self.known.append((time.monotonic(), end_of(self.run, count)))
-            self.longest = max(self.longest, self.known[-1][0] - at)
+                self.made += answer.startswith(("route ", "done "))
+            self.look()
 
+    def look(self):
+        """Sees how many entries there are, among which are all that it had made before, and how many are saved."""
+        last, made = self.looks[-1], self.made
+        entries = end_of(self.run, last.entries)
+        self.looks.append(Look(time.monotonic(), entries, made))
+        self.longest = max(self.longest, self.looks[-1].when - last.when)
+        if told := re.search(r" saved (\d+) ", self.run.ask("status")):
+            self.saved = int(told[1])
 
-def before(seen, when):
-    """What was seen last before a time."""
-    return max((count for at, count in seen if at < when), default=0)
+    def known(self, when):
+        """How many entries it knew of before a time."""
+        return max((look.entries for look in self.looks if look.when < when), default=0)
+
+    def made_among(self, entries):
+        """How many entries it had had made when there were no more than so many in all: these are among them."""
+        return max(look.made for look in self.looks if look.entries <= entries)
 
 
 class Folder:
@@ -124,15 +146,18 @@ def begin(run, block, pause, stays):
 
 
 class Left:
-    """What a killed router left: what is wrong with it, how many entries are saved and how many had to be, and which ones."""
+    """What a killed router left: what is wrong with it, how many entries are saved, of how many it had said so, and how many were known a second
+    before."""
 
-    def __init__(self, folder, known, made):
-        self.wrong, self.saved, self.known = folder.fault(), folder.end(), known
+    def __init__(self, folder, operator, known, has_removed):
+        self.wrong, self.saved, self.told, self.known = folder.fault(), folder.end(), operator.saved, known
         self.is_cut, self.first = folder.is_cut, folder.first()
-        if not self.wrong and self.saved < known:
-            self.wrong = f"{known} entries were known a second before, and {self.saved} are saved"
+        if not self.wrong and self.saved < self.told:
+            self.wrong = f"`status` said that {self.told} entries are saved, and {self.saved} are"
+        # Where segments are removed, entries of the operator are, too.
+        made = 0 if has_removed else operator.made_among(self.saved)
         if not self.wrong and folder.made() < made:
-            self.wrong = f"{made} entries of the operator were answered a second before, and {folder.made()} are saved"
+            self.wrong = f"{made} entries of the operator were answered before the last that is saved, and {folder.made()} are there"
 
 
 def killed(program, is_over, more=(), talk=(FEW, REST, 0.05)):
@@ -144,8 +169,7 @@ def killed(program, is_over, more=(), talk=(FEW, REST, 0.05)):
             operator.work(is_over)
             when = time.monotonic() - LATE - operator.delay()
             run.kill()
-        # Where segments are removed, entries of the operator are, too.
-        return Left(Folder(run), before(operator.known, when), 0 if more else before(operator.made, when))
+        return Left(Folder(run), operator, operator.known(when), bool(more))
     finally:
         run.kill()
         end_all(threads)
@@ -153,18 +177,28 @@ def killed(program, is_over, more=(), talk=(FEW, REST, 0.05)):
 
 
 def short_run(program, seconds):
-    """One that is killed after so many seconds, and after as many more as the machine is late."""
-    return killed(program, lambda operator: operator.seconds() >= seconds + operator.delay())
+    """One that is killed after so many seconds, and after as many more as the machine is late; of the longer half each once something is saved."""
+    needs_saved = seconds > SHORT / 2
+
+    def is_over(operator):
+        has_saved = operator.saved > 0 or operator.seconds() > seconds + PATIENCE
+        return operator.seconds() >= seconds + operator.delay() and (has_saved or not needs_saved)
+
+    left = killed(program, is_over)
+    if needs_saved and not left.wrong and not left.told:
+        left.wrong = "nothing was saved within a minute"
+    return left
 
 
 def long_run(program, entries):
     """One that is killed after so many entries, or after a minute and more."""
-    return killed(program, lambda operator: operator.known[-1][1] >= entries or operator.seconds() > LONGEST, ("--segments", "2"), (BLOCK, 0.0, 0.5))
+    return killed(program, lambda operator: operator.looks[-1].entries >= entries or operator.seconds() > LONGEST, ("--segments", "2"),
+                  (BLOCK, 0.0, 0.5))
 
 
 def main(runs=200, long_runs=10, seed=1):
     program, counts, chosen = built(), Counts(), random.Random(seed)
-    times = [chosen.uniform(0, 2.5) for _ in range(runs)]
+    times = [chosen.uniform(0, SHORT) for _ in range(runs)]
     ends = [chosen.randrange(500_000, 3_500_000) for _ in range(long_runs)]
     found = []
     with concurrent.futures.ThreadPoolExecutor(BESIDE) as pool:
@@ -175,12 +209,13 @@ def main(runs=200, long_runs=10, seed=1):
         found.append(long_run(program, entries))
         counts.judge(f"long run {number}, after {entries} entries", found[-1].wrong)
     # Where nothing was known so long before, nothing has to be there. Of the short runs that is so in about half.
-    telling = sum(left.known > 0 for left in found)
-    counts.judge("all runs", telling < len(found) // 8 and f"only in {telling} of {len(found)} something had to be saved")
-    cut = sum(left.is_cut for left in found)
+    telling, late = (sum(it) for it in zip((0, 0), *((left.known > 0, left.saved < left.known) for left in found)))
+    counts.judge("all runs", telling < len(found) // 8 and f"only in {telling} of {len(found)} something was known a second before")
+    counts.judge("a second before", 2 * late > telling and f"in {late} of {telling} runs not all was saved that was known a second before")
+    cut, told = (sum(it) for it in zip((0, 0), *((left.is_cut, left.told > 0) for left in found)))
     later, removed = (sum(it) for it in zip((0, 0), *((left.saved > 1_000_000, left.first > 0) for left in found[runs:])))
-    print(f"{cut} of {len(found)} were cut within a line, and in {telling} something had to be saved; "
-          f"of the long ones {later} had a second segment, and {removed} had removed one")
+    print(f"{cut} of {len(found)} were cut within a line, and in {told} the router had said that something is saved; in {telling} something was "
+          f"known a second before, of which not all was saved in {late}; of the long ones {later} had a second segment, and {removed} had removed one")
     counts.finish()
 
 

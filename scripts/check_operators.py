@@ -7,13 +7,14 @@ usage: scripts/check_operators.py [--long [TIMES]] [ROW..]        (NCROUTE=PATH:
 Eight operators change filters and ask at the same time: each answer is one of those that there may be, and the history that is saved replays and has
 each of their calls once, in the order of its operator. In one row sessions come and go meanwhile, another operator changes the files and has them
 read again, and the router is killed and started again and again: then each of its histories is such a whole, but for calls that were not answered,
-which it may have, and for the last second before a kill. That row takes a few seconds; with --long it alone is run, for a minute, and so 20 times, or
-TIMES.
+which it may have, and for the last calls before a kill: all that it said were saved are there, and in most of its lives all but those of the last
+second. That row takes a few seconds; with --long it alone is run, for a minute, and so 20 times, or TIMES.
 """
 import collections
 import concurrent.futures
 import contextlib
 import json
+import math
 import os
 import pathlib
 import random
@@ -24,7 +25,7 @@ import tempfile
 import threading
 import time
 
-from lib.controls import Control, until
+from lib.controls import Control
 from lib.histories import entries_of, replayed, segments_of
 from lib.processes import PATIENCE, Delays, Router, awaited
 from lib.program import TOP, built
@@ -32,8 +33,8 @@ from lib.routers import Neighbour, Run, RunRows
 
 OPERATORS, SIZE = 8, 16
 
-# Seconds for which they speak, and before a router is killed.
-LONG, SHORT = 4.0, 1.0
+# Seconds for which they speak, in which each has so many turns or goes on until then; and seconds before a router is killed.
+LONG, TURNS, SHORT = 4.0, 4, 1.0
 
 # Seconds for which operators speak to routers that are killed, in the gate and by --long, and how often --long has it so; how long a router lives, at
 # least and at most; and what a router has saved that was answered so long before.
@@ -111,6 +112,11 @@ def until_answer(control, line, wanted):
     return re.search(wanted, awaited(lambda: control.ask(line), lambda answer: re.search(wanted, answer), PATIENCE))
 
 
+def all_is_told(links):
+    """Whether nothing waits for any neighbour, by what a status says of the links. Once all that they said has come in, no entry comes by itself."""
+    return all(link["waiting"] == 0 for link in links)
+
+
 class DomainFiles:
     """The files of a domain, in a folder."""
 
@@ -165,8 +171,9 @@ class Speaker:
         self.expect(f"history {self.count}", r"history( .*)?")
 
     def speak(self, seconds):
+        end = time.monotonic() + seconds
         with self.control:
-            for _ in until(seconds):
+            while time.monotonic() < end or self.count < TURNS:
                 self.turn()
         return self
 
@@ -187,9 +194,11 @@ class Visitor:
     def __init__(self, lives, control, node, codes):
         self.lives, self.control, self.node, self.codes = lives, control, node, codes
         self.said, self.wrong, self.count, self.longest = {}, [], 0, 0.0
+        # How many entries each router said were saved.
+        self.told = {}
 
     def expect(self, line, pattern, *calls):
-        """Says a line that is answered by a pattern; what it enters is noted before."""
+        """Says a line that is answered by a pattern; what it enters is noted before. The answer."""
         said = [Said(call) for call in calls]
         self.said[self.lives.of(self)] += said
         begun = time.monotonic()
@@ -201,6 +210,7 @@ class Visitor:
             self.wrong.append((line[:60], answer[:60]))
         for each in said:
             each.answered = time.monotonic()
+        return answer
 
     def begin(self):
         """What it knows of a router before it speaks to it."""
@@ -214,7 +224,8 @@ class Visitor:
             self.expect(f"{direction} {self.node} mine", r"done \d+", f"{direction} {self.node} {code}")
         self.expect("routes", ROUTES)
         self.expect(f"show {self.node}", r"route \d+ (local|none|via \d+)", f"show {self.node}")
-        self.expect("status", STATUS)
+        if saved := re.search(r" saved (\d+) ", self.expect("status", STATUS)):
+            self.told[self.lives.of(self)] = int(saved[1])
         self.expect(f"history {self.count}", r"history( .*)?|refused O10 \d+")
 
     def visit(self, is_over):
@@ -331,9 +342,9 @@ def reached(said, found):
     return places
 
 
-def is_whole(said, found, known):
-    """Whether entries are calls of an operator, once each and in order: all that were answered before a time, or all that were answered."""
-    return any(all(it.answered is None or known is not None and it.answered >= known for it in said[place:]) for place in reached(said, found))
+def is_whole(said, found, known=math.inf):
+    """Whether entries are calls of an operator, once each and in order: all that were answered, or all that were answered before a time."""
+    return any(all(it.answered is None or it.answered >= known for it in said[place:]) for place in reached(said, found))
 
 
 class Killed:
@@ -443,6 +454,8 @@ class Rows(RunRows):
 
     WAITING = ("eight_operators", "killed_while_operators_speak", "log_that_nobody_reads", "routers_are_killed")
 
+    TIMED = ("reader_is_gone",)
+
     # How long the operators of `routers_are_killed` speak.
     KILLS = KILLS
 
@@ -462,7 +475,7 @@ class Rows(RunRows):
                     done = list(pool.map(lambda one: one.speak(LONG), speakers))
                 for one in done:
                     self.judge(f"answers of {one.node}", not one.wrong and one.count, one.wrong[:3])
-                self.judge("all speak", min(one.count for one in done) > 3, [one.count for one in done])
+                self.judge("all speak", min(one.count for one in done) >= TURNS, [one.count for one in done])
                 answer = speakers[3].control.asked("quit")
                 self.judge("quit", answer == ["ok"], answer)
                 status = run.process.wait(timeout=PATIENCE)
@@ -504,7 +517,10 @@ class Rows(RunRows):
             for visitor in killed.visitors:
                 self.judge(f"answers of {visitor.node}", not visitor.wrong and visitor.count, visitor.wrong[:3])
             for number, history in enumerate(killed.histories):
-                self.judge_life(killed, number, history, late)
+                self.judge_life(killed, number, history)
+            # How soon a disk has taken what is written is no matter of the router: so most of its lives are judged by that, and not each.
+            in_time = [self.is_in_time(killed, number, late) for number in range(len(killed.killed))]
+            self.judge("a second before", 2 * sum(in_time) >= len(in_time), in_time)
             for history in killed.others:
                 self.replays(history, is_killed=history != killed.others[-1])
             self.judge("quit", killed.ends == [("ok", 0)] * 2, killed.ends)
@@ -519,15 +535,24 @@ class Rows(RunRows):
         said, _ = replayed(self.program, segments_of(history))
         self.judge("replay", re.fullmatch(r"replay ok \d+\n" + (r"|(file \d+ )?cut \d+\n" if is_killed else ""), said), said)
 
-    def judge_life(self, killed, number, history, late):
-        """A history of the first router: the calls of each operator in it are those of that life."""
+    def judge_life(self, killed, number, history):
+        """A history of the first router: the calls of each operator in it are those of that life, the first of them where the router was killed; and
+        it has as many entries as were said to be saved."""
         is_killed = number < len(killed.killed)
         self.replays(history, is_killed)
-        calls = calls_in(entries_in(history))
+        entries = entries_in(history)
+        told = max(visitor.told.get(number, 0) for visitor in killed.visitors)
+        self.judge(f"life {number}: all is there that was said to be saved", len(entries) >= told, (len(entries), told))
+        calls = calls_in(entries)
         for visitor in killed.visitors:
             found, said = calls[str(visitor.node)], visitor.said.get(number, [])
-            holds = is_whole(said, found, killed.killed[number] - late if is_killed else None)
+            holds = is_whole(said, found, -math.inf if is_killed else math.inf)
             self.judge(f"life {number}: calls of {visitor.node}", holds, (len(found), len(said), found[-1:], [it.call for it in said[-1:]]))
+
+    def is_in_time(self, killed, number, late):
+        """Whether the history of a router that was killed has all calls that were answered so many seconds before."""
+        calls = calls_in(entries_in(killed.histories[number]))
+        return all(is_whole(visitor.said.get(number, []), calls[str(visitor.node)], killed.killed[number] - late) for visitor in killed.visitors)
 
     def row_looks_alone(self):
         """Who may look alone is answered looks, and refused all else; what they say makes no entry."""
@@ -842,9 +867,11 @@ class Rows(RunRows):
             self.judge("reachable", [route["reachable"] for route in found] == [True, False, True] + [False] * 5, found)
             self.end(run)
 
-    def begin_of(self, run):
-        """What is to stay where nothing changes: the sessions, the routes and the history."""
-        return run.ask("neighbours"), run.ask("routes"), run.entries()
+    def begin_of(self, operator):
+        """What is to stay where nothing changes: the sessions, the routes and the history, once no entry comes by itself any more."""
+        links = awaited(lambda: json.loads(operator.ask("status json"))["links"], all_is_told, PATIENCE)
+        self.judge("all is told", all_is_told(links), links)
+        return operator.ask("neighbours"), operator.ask("routes"), operator.ask("history 0")
 
     @contextlib.contextmanager
     def in_domain(self, *more):
@@ -879,8 +906,8 @@ class Rows(RunRows):
             neighbours, routes, entries = self.begin_of(run)
             self.judge("sessions", neighbours == before[0], (neighbours, before[0]))
             self.judge("routes", " 1:1:1 2:3:2 " in routes, routes)
-            more = [entry.split()[1:3] for entry in entries[len(before[2]):]]
-            self.judge("entries", entries[:len(before[2])] == before[2] and more[0] == ["import", "2"] and ["import", "1"] not in more, more)
+            more = [entry.split()[1:3] for entry in entries.removeprefix(f"{before[2]} | ").split(" | ")]
+            self.judge("entries", entries.startswith(before[2]) and more[0] == ["import", "2"] and ["import", "1"] not in more, more)
             answer = control.ask("import 1 far")
             self.judge("its names", answer == "done 1", answer)
             answer = control.ask("reload")
@@ -926,18 +953,18 @@ class Rows(RunRows):
     def row_reload_links(self):
         """One link goes and one comes: the first has its Down in the history, the other one comes up, and the third keeps its session."""
         with self.by_options() as (run, control, files, neighbours):
-            before = control.ask("neighbours"), control.ask("history 0")
+            before = self.begin_of(control)
             files.write_links(neighbours, 2, 3)
             told, digests = " | link 1 is gone | link 3 is new", [self.digest_of(control)]
             answer = control.ask("reload check")
             self.judge("check", answer == "reload" + told, answer)
-            self.judge("nothing changed", (control.ask("neighbours"), control.ask("history 0")) == before)
+            self.judge("nothing changed", self.begin_of(control) == before)
             answer = control.ask("reload")
             self.judge("reload", answer == "reloaded" + told, answer)
             answer = control.ask("neighbours")
             self.judge("1 is gone", answer == "neighbours 2:2", answer)
             answer = control.ask("history 0")
-            self.judge("its Down", answer[len(before[1]):].startswith(" | ") and re.search(r"\| \S+ down 1 ", answer[len(before[1]):]), answer)
+            self.judge("its Down", answer.startswith(f"{before[2]} | ") and re.search(r"\| \S+ down 1 ", answer[len(before[2]):]), answer)
             self.judge("its stream ends", neighbours[1].is_ended())
             neighbours[3].come()
             neighbours[3].say(b"3 0\n")
@@ -983,7 +1010,7 @@ class Rows(RunRows):
     def row_refused_links(self):
         """A link that is not as it is to be is refused as at the start, and no link changes."""
         with self.by_options() as (run, control, files, neighbours):
-            before = control.ask("neighbours"), control.ask("history 0")
+            before = self.begin_of(control)
             domain, options = files.read("the.domain"), files.read("r.conf")
             wanted = [
                 (domain + "\nlink 0 3", options, r"error: the file of the domain has a link to node 3, and no --link says where its streams are"),
@@ -999,7 +1026,7 @@ class Rows(RunRows):
                 for line in ("reload check", "reload"):
                     answer = control.ask(line)
                     self.judge(f"{line}: {words}", re.fullmatch(rf"refused O12 \d+ {words}", answer), answer)
-                self.judge(f"nothing changed: {words}", (control.ask("neighbours"), control.ask("history 0")) == before)
+                self.judge(f"nothing changed: {words}", self.begin_of(control) == before)
 
     def row_refused_reload(self):
         """Something is wrong with the files, or the running router cannot take it: it is told in words, and nothing changes."""

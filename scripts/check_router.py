@@ -53,6 +53,8 @@ class Rows(FeedRows, SizeRows):
 
     WAITING = FeedRows.WAITING + SizeRows.WAITING
 
+    TIMED = FeedRows.TIMED + SizeRows.TIMED
+
     def with_one(self, behave, says, more=(), history=None):
         """Node 1 behaves so while node 2 is served; standard error says that."""
         with Run(self.program, more=more) as run:

@@ -6,14 +6,15 @@ import re
 import tempfile
 import time
 
+from lib.lines import has_open
 from lib.processes import awaited
 from lib.routers import PATIENCE, Run, RunRows
 
 # The largest domain: all its routes are more than 8 kilobytes of lines.
 NODES = 250
 
-# Seconds: a router tells nothing for so long at most, and notices so soon that a reader is gone; no answer takes longer, whoever reads slowly.
-SILENCE, NOTICED, PROMPT = 2.0, 2.5, 1.0
+# Seconds: a router tells nothing for so long at least where nothing changes, and for so long at most; no answer takes longer, whoever reads slowly.
+REST, SILENCE, PROMPT = 1.0, 2.0, 1.0
 
 # How often all distances change while a reader reads nothing.
 CHANGES = 40
@@ -96,6 +97,8 @@ class FeedRows(RunRows):
     """Rows of the feed of routes."""
 
     WAITING = ("feed_first_rest", "feed_silence", "feed_reader_again", "feed_no_file", "feed_to_a_file")
+
+    TIMED = ("feed_slow_reader",)
 
     @contextlib.contextmanager
     def feeding(self, more=(), make=os.mkfifo, kind=Feed, config=None, **options):
@@ -199,7 +202,7 @@ class FeedRows(RunRows):
             table[net(3)] = (1, 2)
             self.judge("3 is reached", run.routes_until(3, "2:1"))
             for text, told in ((b"3 2\n4 2\n", {net(3): (1, 3), net(4): (1, 3)}), (b"3 8\n4 1\n", {net(3): None, net(4): (1, 2)}), (b"", {})):
-                time.sleep(NOTICED)
+                self.judge("notices that nobody reads", awaited(lambda: not has_open(run.process.pid, feed.path), bool, PATIENCE))
                 feed.open()
                 self.judge("the whole table", feed.until(feed.blocks) and feed.blocks()[0][1:] == (True, table), feed.text[-300:])
                 feed.close()
@@ -256,10 +259,11 @@ class FeedRows(RunRows):
     def row_feed_silence(self):
         """Where nothing changes, that is told: a block without routes, so often that a reader that is gone is noticed."""
         with self.feeding() as (run, feed):
+            begun = time.monotonic()
             self.begin(run, feed)
-            feed.until(lambda: False, 2 * SILENCE)
-            later = feed.blocks()[1:]
-            self.judge("says so", 2 <= len(later) <= 4 and not any(changes for _, _, changes in later), feed.text[-300:])
+            feed.until(lambda: len(feed.blocks()) > 2)
+            later, most = feed.blocks()[1:], (time.monotonic() - begun) / REST
+            self.judge("says so", 2 <= len(later) <= most and not any(changes for _, _, changes in later), (most, feed.text[-300:]))
             self.judge("sound", feed.is_sound(), feed.text[-300:])
 
     def row_feed_no_file(self):

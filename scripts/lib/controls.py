@@ -2,7 +2,6 @@
 import contextlib
 import os
 import select
-import time
 
 from lib.processes import PATIENCE
 
@@ -90,10 +89,3 @@ class Control:
         """What is answered to lines, in an opening of their own."""
         with self:
             return [self.ask(line) for line in lines]
-
-
-def until(seconds):
-    """Goes on for so many seconds."""
-    end = time.monotonic() + seconds
-    while time.monotonic() < end:
-        yield
