@@ -1,5 +1,5 @@
-"""The programs that are made of what carries no promise: the tests of tests/calls/ and the benches of bench/parts/. They are built without proofs, once
-for all parts of the test command."""
+"""The programs that are made of what carries no promise: the tests of tests/calls/ and the benches of bench/parts/. They are built without proofs,
+once for all parts of the test command."""
 import os
 import re
 import subprocess
