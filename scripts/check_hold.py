@@ -62,6 +62,9 @@ MANY_SESSIONS = 2500
 # Seconds of a processor that an idle router may take in a minute.
 IDLE_TIME = 0.05
 
+# What a neighbour with much to tell has said in a session, and a line has kept.
+LEFT_OVER = b"3 1\n\n3 2\n" * (1 << 17)
+
 # The neighbours of the largest domain, and the seconds of their HOLD; for how long they say that they are there.
 MOST_LINKS, SHORT_HOLD, ALIVE = 249, 3, 12
 
@@ -272,11 +275,11 @@ class Ring:
 class Rows(RunRows):
     """What a neighbour does, and how soon it is noticed."""
 
-    WAITING = ("errors_are_full", "half_a_line", "hold", "hold_of_none", "idle", "line_is_cut", "old_answer", "ring", "slow_line", "slower_line",
-               "starts_over_a_line_that_drops", "starts_over_a_line_that_keeps", "starts_over_fifos", "starts_over_terminals_that_drop",
+    WAITING = ("errors_are_full", "half_a_line", "hold", "hold_of_none", "idle", "line_is_cut", "line_keeps_a_megabyte", "old_answer", "ring",
+               "slow_line", "slower_line", "starts_over_a_line_that_drops", "starts_over_a_line_that_keeps", "starts_over_fifos", "starts_over_terminals_that_drop",
                "starts_over_terminals_that_keep", "stopped", "stopped_for_less")
 
-    TIMED = ("half_a_line", "hold", "idle", "line_is_cut", "most_links", "ring", "slow_line", "stopped", "stopped_for_less")
+    TIMED = ("half_a_line", "hold", "idle", "line_is_cut", "line_keeps_a_megabyte", "most_links", "ring", "slow_line", "stopped", "stopped_for_less")
 
     def __init__(self, program, starts, minutes, seed):
         super().__init__(program)
@@ -430,6 +433,24 @@ class Rows(RunRows):
             self.judge("both go down", None not in took, took)
             pair.line.cut(False)
             back = self.comes_up(pair, "come back")
+            self.tell(f"down after {took[0]} s, back after {back} s")
+
+    def row_line_keeps_a_megabyte(self):
+        """A line hands over nothing for longer than the HOLD, and then all that it has kept: more than a megabyte of messages and empty lines of the
+        session that is over. Both ends come up again, without `--retry`."""
+        with Pair(self.program, (("--hold", str(SHORT_HOLD)),) * 2, Pipes) as pair:
+            pair.start()
+            self.comes_up(pair)
+            pair.line.keep(True)
+            took = [end.goes_down(SHORT_HOLD + LATE) for end in pair.ends]
+            self.judge("both go down", None not in took, took)
+            for relay in pair.line.relays:
+                relay.coming.appendleft((0, LEFT_OVER))
+            pair.line.keep(False)
+            back = self.comes_up(pair, "come back")
+            for end in pair.ends:
+                said = end.said()
+                self.judge("says that alone", "did not greet" not in said, said)
             self.tell(f"down after {took[0]} s, back after {back} s")
 
     def row_slow_line(self):

@@ -101,7 +101,7 @@ class Relay:
 
     def __init__(self, near, far, listens, delay):
         self.near, self.far, self.listens, self.delay = near, far, listens, delay
-        self.is_cut = self.is_over = False
+        self.is_cut = self.is_over = self.is_kept = False
         # What is on its way, and when each part arrives.
         self.coming = collections.deque()
         self.thread = threading.Thread(target=self.run, daemon=True)
@@ -114,7 +114,7 @@ class Relay:
             if asked.poll(5 if self.coming else 50):
                 with contextlib.suppress(BlockingIOError):
                     self.coming.append((time.monotonic() + self.delay, os.read(self.near.reads, 65536)))
-            while self.coming and self.coming[0][0] <= time.monotonic():
+            while self.coming and not self.is_kept and self.coming[0][0] <= time.monotonic():
                 self.hand_on(self.coming.popleft()[1])
 
     def hand_on(self, text):
@@ -148,6 +148,11 @@ class Relayed:
         self.files = [end.files for end in self.ends]
         ways = ((0, 1), (1, 0))
         self.relays = [Relay(self.ends[near], self.ends[far], lambda far=far: listens(far), delay) for near, far in ways]
+
+    def keep(self, is_kept):
+        """Keeps what comes, and hands it over later."""
+        for relay in self.relays:
+            relay.is_kept = is_kept
 
     def cut(self, is_cut):
         for relay in self.relays:

@@ -128,7 +128,8 @@ impl End {
     }
 }
 
-/// How many bytes an end skips at most, without a session, until a greeting comes.
+/// How many bytes of lines that say nothing an end skips at most, without a session, until a greeting comes. Messages and empty lines are left over
+/// from a session before, and do not count.
 pub const SKIP_LIMIT: u32 = 65_536;
 
 /// How many bytes were skipped, after so many more. None where these are more than the limit: then nothing is read any more, and the

@@ -116,7 +116,8 @@ fn take_said<I: Read>(
     }
 }
 
-/// How many bytes were skipped since the last greeting, after a line of so many. A greeting has to be the neighbour's.
+/// How many bytes were skipped since the last greeting, after a line of so many. A greeting has to be the neighbour's. A message and an empty line
+/// count nothing: they are left over from a session before, and there are no more of them than were on their way.
 fn count_skipped<I: Read>(
     said: Said,
     skipped: u32,
@@ -128,20 +129,22 @@ fn count_skipped<I: Read>(
     ensures ok { OnOk result (spec.IsWelcome domain neighbour said) }
     ensures err { IfErr result (λ why. spec.IsUnmet why domain neighbour input.now) }
 {
-    let Said::Greeting(greeting) = said else {
-        return skip(skipped, bytes).ok_or(SessionEnd::Ungreeted);
-    };
-    match check_greeting(greeting, domain, neighbour) {
-        Ok(()) => Ok(0),
-        Err(fault) => Err(SessionEnd::Mistaken {
-            fault,
-            line: input.line(),
-        }),
+    match said {
+        Said::Greeting(greeting) => match check_greeting(greeting, domain, neighbour) {
+            Ok(()) => Ok(0),
+            Err(fault) => Err(SessionEnd::Mistaken {
+                fault,
+                line: input.line(),
+            }),
+        },
+        Said::Message(_) | Said::Alive => Ok(skipped),
+        Said::Nothing => skip(skipped, bytes).ok_or(SessionEnd::Ungreeted),
     }
 }
 
 /// Waits until a neighbour answers the present attempt of this end of the link: what the end came up on. Whatever else the neighbour says
-/// is skipped, up to 65,536 bytes between two of its greetings. A line that was heard before, and ended a session, may be the first.
+/// is skipped: messages and empty lines, however many, and up to 65,536 bytes of other lines between two of its greetings. A line that was heard
+/// before, and ended a session, may be the first.
 pub fn meet<R: Wait + RandomSource, I: Read, E: Ears>(
     rt: &R,
     input: &mut MessageReader<I>,
