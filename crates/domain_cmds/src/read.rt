@@ -13,9 +13,11 @@ ghost use Rattle.domain_cmds.specs.Readings.{IsRead, IsReadIn};
 use crate::command::{DomainCommand, DomainSize, Question};
 use crate::verb::{DomainVerb, read_verb};
 use filter_code::{LARGEST_SIZE, SMALLEST_SIZE};
-use line_protocol::{LINE_LIMIT, next_word};
-use operator_cmds::{CommandFault, Direction, cut_word, one_word, read_code, read_load, read_node, read_node_prefix, read_small, three_words, two_words};
-use line_protocol::is_name;
+use line_protocol::{LINE_LIMIT, is_name, next_word};
+use operator_cmds::{
+    CommandFault, Direction, cut_word, one_word, read_code, read_load, read_node, read_node_prefix,
+    read_small, three_words, two_words,
+};
 use std::alloc::Global;
 
 /// The numbers of two nodes.

@@ -3,8 +3,8 @@ ghost use Rattle.std.specs.Prelude.{◌≡◌};
 ghost use Rattle.std.specs.Option.{option_map};
 ghost use Rattle.domain_files.specs.Including as spec;
 
-use operator_cmds::{cut_word, two_words};
 use line_protocol::is_name;
+use operator_cmds::{cut_word, two_words};
 
 /// What a line `include NAME FILE` says.
 #[derive(Clone, Copy)]
