@@ -6,8 +6,8 @@ usage: scripts/check_edits.py NAME..           those of these crates (crates/NAM
        scripts/check_edits.py --since COMMIT   those of the crates whose src/ or specs/ differ from a commit's
        scripts/check_edits.py --all [--write]  those of all crates; --write puts a line on the run into bench/GATE.md
 
-Each is tried over what is proved of its crate, by scripts/prove.py: a crate is proved first, if it is not yet, and then an edit takes the time of what it
-changes. As many are tried side by side as there are processors. One that the checker does not refuse has failed, and one that it could not read.
+Each is tried over what is proved of its crate, by scripts/prove.py: a crate is proved first, if it is not yet, and then an edit takes the time of
+what it changes. As many are tried side by side as there are processors. One that the checker does not refuse has failed, and one that it could not read.
 """
 import argparse
 import concurrent.futures
@@ -61,7 +61,8 @@ def write(counts, minutes):
     """Puts a line on a run of all wrong bodies into the page on the gate."""
     commit = subprocess.check_output(["git", "rev-parse", "--short", "HEAD"], cwd=prove.TOP, text=True).strip()
     kit = subprocess.check_output(["rt", "version"], text=True).strip()
-    line = f"The last run of all wrong bodies: {datetime.date.today()}, over {commit}, by `{kit}`: {counts.passed} refused, {counts.failed} not, in {minutes:.0f} minutes."
+    said = f"{counts.passed} refused, {counts.failed} not, in {minutes:.0f} minutes"
+    line = f"The last run of all wrong bodies: {datetime.date.today()}, over {commit}, by `{kit}`: {said}."
     with open(PAGE, encoding="utf-8") as f:
         page = f.read()
     if not LINE.search(page):

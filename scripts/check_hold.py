@@ -276,8 +276,8 @@ class Rows(RunRows):
     """What a neighbour does, and how soon it is noticed."""
 
     WAITING = ("errors_are_full", "half_a_line", "hold", "hold_of_none", "idle", "line_is_cut", "line_keeps_a_megabyte", "old_answer", "ring",
-               "slow_line", "slower_line", "starts_over_a_line_that_drops", "starts_over_a_line_that_keeps", "starts_over_fifos", "starts_over_terminals_that_drop",
-               "starts_over_terminals_that_keep", "stopped", "stopped_for_less")
+               "slow_line", "slower_line", "starts_over_a_line_that_drops", "starts_over_a_line_that_keeps", "starts_over_fifos",
+               "starts_over_terminals_that_drop", "starts_over_terminals_that_keep", "stopped", "stopped_for_less")
 
     TIMED = ("half_a_line", "hold", "idle", "line_is_cut", "line_keeps_a_megabyte", "most_links", "ring", "slow_line", "stopped", "stopped_for_less")
 

@@ -1,7 +1,7 @@
 """The checkers that a gate has started, and the modules that each has checked so far.
 
-A checker writes each module that it has checked into a folder of its own among the temporary files, and removes the folder at its end. That rests on no
-page of the kit, and on Linux: where it is no longer so, nothing is found.
+A checker writes each module that it has checked into a folder of its own among the temporary files, and removes the folder at its end. That rests on
+no page of the kit, and on Linux: where it is no longer so, nothing is found.
 """
 import os
 import re
@@ -63,6 +63,7 @@ class Checkers:
 def modules(folder):
     """The modules that a checker has written by now: each with its file and the time of it. None once the checker has ended."""
     try:
-        return [(it.name, it.path, it.stat().st_mtime) for it in os.scandir(folder) if it.name.startswith("Rattle-") and it.name.endswith(".oantt") and not it.is_symlink()]
+        found = [it for it in os.scandir(folder) if re.fullmatch(r"Rattle-.*\.oantt", it.name) and not it.is_symlink()]
+        return [(it.name, it.path, it.stat().st_mtime) for it in found]
     except OSError:
         return None
