@@ -7,7 +7,8 @@ usage: scripts/check_edits.py NAME..           those of these crates (crates/NAM
        scripts/check_edits.py --all [--write]  those of all crates; --write puts a line on the run into bench/GATE.md
 
 Each is tried over what is proved of its crate, by scripts/prove.py: a crate is proved first, if it is not yet, and then an edit takes the time of
-what it changes. As many are tried side by side as there are processors. One that the checker does not refuse has failed, and one that it could not read.
+what it changes. As many are tried side by side as there are processors. One that the checker does not refuse has failed, and one that it could not
+read.
 """
 import argparse
 import concurrent.futures
