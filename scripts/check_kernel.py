@@ -41,6 +41,7 @@ from lib.counts import Counts, NotRun, lack_of
 from lib.processes import Delays, Process, awaited
 from lib.program import TOP, built
 from lib.spaces import Spaces, Wire
+from lib.units import Unit
 
 INSTALLER = str(TOP / "tools" / "ncroute-kernel")
 RING = "domain 4\nlink 0 1\nlink 1 2\nlink 2 3\nlink 0 3\n"
@@ -282,12 +283,16 @@ class Alone:
 
 
 class Line(Wire):
-    """A wire whose `socat` is started again at each end whenever it ends, as by a unit. It connects once a router has opened its terminal."""
+    """A wire whose `socat` is started again at each end whenever it ends, as by a unit, and ends by the unit's options where nothing passes. It
+    connects once a router has opened its terminal."""
 
     LOOP = 'while :; do rm -f "$0"; socat -t0.1 "PTY,link=$0,rawer,wait-slave" "$1"; rm -f "$0"; sleep 0.1; done'
+    UNIT = Unit(TOP / "packaging" / "systemd" / "system" / "ncroute-link@.service")
+    ALIVE = re.search(r"\$\{STREAM\},(\S+)", UNIT.last("ExecStart"))[1]
 
     def join(self):
-        for end, way in enumerate((f"TCP-LISTEN:{self.port},reuseaddr", f"TCP:{self.addresses[0]}:{self.port},connect-timeout=1")):
+        ways = (f"TCP-LISTEN:{self.port},reuseaddr,{self.ALIVE}", f"TCP:{self.addresses[0]}:{self.port},syncnt=1,{self.ALIVE}")
+        for end, way in enumerate(ways):
             words = [*self.spaces.inside(self.ends[end]), "sh", "-c", self.LOOP, self.files[end], way]
             self.socats[end] = subprocess.Popen(words, stderr=subprocess.DEVNULL, start_new_session=True)
 
