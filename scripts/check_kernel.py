@@ -41,6 +41,7 @@ from lib.counts import Counts, NotRun, lack_of
 from lib.processes import Delays, Process, awaited
 from lib.program import TOP, built
 from lib.spaces import Spaces, Wire
+from lib.units import Unit
 
 INSTALLER = str(TOP / "tools" / "ncroute-kernel")
 RING = "domain 4\nlink 0 1\nlink 1 2\nlink 2 3\nlink 0 3\n"
@@ -108,10 +109,58 @@ class Alone:
         first = "".join(whole.splitlines(True)[:2]) + "end 3\n"
         found = self.installs(first, "--dry-run", "--metric-base", "0", "--table", "7", "--protocol", "9")
         self.judge("dry run", found == (0, lines, "", []), found)
+        self.sources(first)
+        self.without_a_word(first)
         self.refusals(whole)
         self.fifos(whole, there)
         self.follows(whole, there)
         self.closes()
+
+    def sources(self, first):
+        """With --src what the machine sends by a route has that address. A route that was there with another one, or with none, is replaced, and one
+        that the kernel drops with the address is put in again once the address is back."""
+        for source in ("10.0.0.1", "10.0.0.2"):
+            self.spaces.ip(0, "address", "add", f"{source}/32", "dev", "one")
+
+        def shown():
+            """The sources of the routes to the prefix, and by which address the kernel would send there."""
+            routes = json.loads(ran([*self.inside, "ip", "-json", "route", "show", "10.1.0.0/16", "proto", PROTOCOL]).stdout or "[]")
+            asked = json.loads(ran([*self.inside, "ip", "-json", "route", "get", "10.1.2.3"]).stdout or "[{}]")
+            return [it.get("prefsrc") for it in routes], asked[0].get("prefsrc")
+        one, other = "10.0.0.1", "10.0.0.2"
+        for words, wanted in (
+            (("--src", one), ([one], one)), (("--src", one), ([one], one)), (("--src", other), ([other], other)), ((), ([None], "192.0.2.1")),
+            (("--src", one), ([one], one)),
+        ):
+            found = self.installs(first, *words)[:3], shown()
+            self.judge(f"the source with {words}", found == ((0, "", ""), wanted), found)
+        found = self.installs(first, "--dry-run", "--table", "7", "--src", one)
+        line = "route append 10.1.0.0/16 via 192.0.2.2 dev one src 10.0.0.1 proto 77 metric 201 table 7\n"
+        self.judge("the source, dry run", found[:3] == (0, line, ""), found)
+        found = self.installs(first, "--table", "7", "--src", "10.0.0.9")
+        self.judge("a source that the machine has not is told", found[0] == 0 and "refsrc" in found[2], found)
+        words = [*self.inside, INSTALLER, *self.VIA, "--src", one, self.fifo]
+        with Process(words, errors=subprocess.DEVNULL) as installer, open(self.fifo, "w", encoding="ascii") as feed:
+            feed.write(first)
+            feed.flush()
+            for what, change, wanted in (("goes", "del", ([], None)), ("comes", "add", ([one], one))):
+                self.spaces.ip(0, "address", change, f"{one}/32", "dev", "one")
+                found = awaited(shown, lambda it, wanted=wanted: it == wanted, FOLLOWED)
+                self.judge(f"the address of the source {what}", found == wanted, found)
+            installer.process.send_signal(signal.SIGTERM)
+            self.judge("ends with a source", installer.process.wait(timeout=FOLLOWED) == 0)
+        found = self.installs(first, "--src", one, "--flush")[3]
+        self.judge("flush, with a source", not found, found)
+
+    def without_a_word(self, first):
+        """`ip` ends without a word where it may change nothing and not give up its rights, as in a container: that is told all the same."""
+        with tempfile.TemporaryDirectory() as folder:
+            silent = pathlib.Path(folder, "ip")
+            silent.write_text("#!/bin/sh\nexit 1\n", encoding="ascii")
+            silent.chmod(0o755)
+            done = ran([INSTALLER, *self.VIA], input=first, env={**os.environ, "PATH": f"{folder}{os.pathsep}{os.environ['PATH']}"})
+        says = "ncroute-kernel: ip route show: `ip` ended with 1, without a word (no CAP_NET_ADMIN?)\n"
+        self.judge("an `ip` that says nothing", (done.returncode, done.stderr) == (1, says), done.stderr)
 
     def refusals(self, whole):
         for what, feed in (
@@ -123,7 +172,7 @@ class Alone:
             status, output, errors, routes = self.installs(feed)
             self.judge(what, (status, output, routes) == (1, "", []) and errors.startswith("ncroute-kernel: ") and errors.count("\n") == 1, errors)
         twice = ("--via", "3=192.0.2.9", "--via", "3=192.0.2.8")
-        for words in (twice, ("--via", "3"), ("--via", "3=192.0.2"), ("--protocol", "0"), ("--table", "x")):
+        for words in (twice, ("--via", "3"), ("--via", "3=192.0.2"), ("--protocol", "0"), ("--table", "x"), ("--src", "10.0.0"), ("--src", "::1")):
             self.judge(f"refuses {words}", (found := self.installs(whole, *words))[0] == 2, found)
 
     def fifos(self, whole, there):
@@ -234,12 +283,16 @@ class Alone:
 
 
 class Line(Wire):
-    """A wire whose `socat` is started again at each end whenever it ends, as by a unit. It connects once a router has opened its terminal."""
+    """A wire whose `socat` is started again at each end whenever it ends, as by a unit, and ends by the unit's options where nothing passes. It
+    connects once a router has opened its terminal."""
 
     LOOP = 'while :; do rm -f "$0"; socat -t0.1 "PTY,link=$0,rawer,wait-slave" "$1"; rm -f "$0"; sleep 0.1; done'
+    UNIT = Unit(TOP / "packaging" / "systemd" / "system" / "ncroute-link@.service")
+    ALIVE = re.search(r"\$\{STREAM\},(\S+)", UNIT.last("ExecStart"))[1]
 
     def join(self):
-        for end, way in enumerate((f"TCP-LISTEN:{self.port},reuseaddr", f"TCP:{self.addresses[0]}:{self.port},connect-timeout=1")):
+        ways = (f"TCP-LISTEN:{self.port},reuseaddr,{self.ALIVE}", f"TCP:{self.addresses[0]}:{self.port},syncnt=1,{self.ALIVE}")
+        for end, way in enumerate(ways):
             words = [*self.spaces.inside(self.ends[end]), "sh", "-c", self.LOOP, self.files[end], way]
             self.socats[end] = subprocess.Popen(words, stderr=subprocess.DEVNULL, start_new_session=True)
 

@@ -1090,6 +1090,19 @@ class Rows(RunRows):
         ran = subprocess.run([CTL, "-c", config, *words], input=text, capture_output=True, text=True, check=False, timeout=2 * PATIENCE)
         return ran.returncode, ran.stdout, ran.stderr
 
+    def on_a_terminal(self, folder, config, *words):
+        """The same where standard error is a terminal, and `ncroute` is found by its name."""
+        os.symlink(self.program, os.path.join(folder, "ncroute"))
+        shows, terminal = os.openpty()
+        try:
+            ran = subprocess.run([CTL, "-c", config, *words], stdout=subprocess.PIPE, stderr=terminal, text=True, check=False, timeout=2 * PATIENCE,
+                                 env={**os.environ, "PATH": f"{folder}{os.pathsep}{os.environ['PATH']}"})
+        finally:
+            os.close(terminal)
+        with contextlib.closing(os.fdopen(shows, "rb", buffering=0)) as shown, contextlib.suppress(OSError):
+            return ran.returncode, ran.stdout, shown.read(4096).decode()
+        return ran.returncode, ran.stdout, ""
+
     def together(self, config):
         """Many who speak at the same time are answered what each of them asked."""
         asked = [(f"show {node}", f"route {0 if node == 0 else 8} {'local' if node == 0 else 'none'}\n") for node in range(8)] * 3
@@ -1123,6 +1136,8 @@ class Rows(RunRows):
                 self.judge("json", found[0] == 0 and json.loads(found[1])["size"] == 8, found)
                 found = self.ctl(config, "jump")
                 self.judge("refused", found == (1, "refused O1 1\n", ""), found)
+                found = self.on_a_terminal(folder, config, "import", "1", "near")
+                self.judge("refused, on a terminal", found == (1, "refused O6 1\n", "O6: no filter has this NAME\r\n"), found)
                 found = self.ctl(config, text="# not said\n\nload near filter near { accept; }\nimport 1 near\nneighbours\n")
                 self.judge("lines", found == (0, "verified 1 0\ndone 0\nneighbours\n", ""), found)
                 self.together(config)

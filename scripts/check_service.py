@@ -33,17 +33,19 @@ UP = 240.0
 
 # What is there when both routers are up, in a domain of four nodes.
 ROUTES = {"north": "routes 0:0 1:1:1 2:4 3:4", "east": "routes 0:1:0 1:0 2:4 3:4"}
-INSTALLS = "route append 10.1.0.0/16 via 192.0.2.2 dev eth1 proto 77 metric 201 table 254"
+INSTALLS = "route append 10.1.0.0/16 via 192.0.2.2 dev eth1 src 10.0.0.1 proto 77 metric 201 table 254"
 AWAY = "the router has ended: what the kernel has stays until it is back"
 
 
 # Options of routers that do not go on as the two of the document, and of one that it has within a sentence.
 FILES = {
     "refused.conf": "size 4\nnode 0\nhodl 3\n",
-    "full.conf": "size 4\nnode 0\ncontrol /run/ncroute/full/in /run/ncroute/full/out\n",
+    "full.conf": "size 4\nnode 0\nsegments 3 # and not as many as the unit says\ncontrol /run/ncroute/full/in /run/ncroute/full/out\n",
     "east.kernel": "# As it is tried\nOPTIONS=--dry-run --via 0=192.0.2.1%eth1\n",
     "mute.conf": "size 4\nnode 0\ncontrol /run/ncroute/mute/in /run/ncroute/mute/out\n",
 }
+# Files of earlier starts of one of them, and for how many days nobody wrote there: whether its next start leaves them.
+HISTORIES = (("20250101T000000.000Z", 31, False), ("20250201T000000.000Z", 29, True))
 # Seconds for which a router is away: whoever waits for it has looked for it meanwhile.
 AWAY_FOR = 2.5
 # Bytes that a file may have where a disk is full.
@@ -87,7 +89,11 @@ def is_elsewhere(prefix):
 
 def made_by(unit):
     """The FIFOs that a unit makes before it starts."""
-    return [word for line in unit.settings["ExecStartPre"] if "mkfifo" in line for word in words_of(line)[3:]]
+    found = []
+    for line in unit.settings["ExecStartPre"]:
+        if folder := re.search(r"cd (\S+) && mkfifo", line):
+            found += [f"{folder[1]}/{name}" for names in re.findall(r"mkfifo -m \d+ ([\w. ]+)", line) for name in names.split()]
+    return found
 
 
 def parts_missing(prefix):
@@ -166,11 +172,8 @@ class Guide:
     """What docs/RUNNING.md shows of two machines: their files, and the commands that are typed on each with what they print."""
 
     def __init__(self):
-        text, self.files, self.commands = documents.read("docs/RUNNING.md"), {}, []
-        for paragraph, block in re.findall(r"(?m)^((?:\S.*\n)+)\n((?: {4}(?!\w+[$#>:] ).*\n)+)", text):
-            if names := re.findall(r"`/etc/ncroute/([\w.]+)`", paragraph):
-                self.files[names[-1]] = re.sub("(?m)^ {4}", "", block)
-        shown = None
+        text = documents.read("docs/RUNNING.md")
+        self.files, self.commands, shown = documents.shown_files(text), [], None
         for line in text.split("\n"):
             if found := re.fullmatch(r" {4}(north|east)# (.*)", line):
                 shown = []
@@ -212,7 +215,7 @@ class Lab:
         """A text of the guide, with the folders, the address and the port that are taken here. Nothing is done to the kernel."""
         for place in PLACES:
             text = text.replace(place, self.folder + place)
-        text = re.sub(r"192\.0\.2\.\d(?=[:,])|(?<=bind=)192\.0\.2\.\d", "127.0.0.1", text)
+        text = re.sub(r"192\.0\.2\.\d(?=[:,])|(?<=bind=)192\.0\.2\.\d|(?<=range=)192\.0\.2\.\d", "127.0.0.1", text)
         return text.replace(":17900", f":{self.port}").replace("/usr/local/", f"{self.prefix}/").replace("--close", "--dry-run")
 
     def judge(self, what, holds, told=""):
@@ -296,6 +299,8 @@ class Lab:
             self.start(unit, name)
         self.judge("what is started", len(self.services) == 6, sorted(self.services))
         self.are_up("begun")
+        words = self.services["ncroute", "north"].words()
+        self.judge("segments as the unit says", words[words.index("--segments") + 1:][:1] == ["10"] if "--segments" in words else False, words)
         self.installs("begun", 0)
         answers = Control(f"{self.folder}/run/ncroute/north", "look", is_made=True).asked("routes", "import 1 near")
         self.judge("who may look", answers == [ROUTES["north"], "refused O11 2"], answers)
@@ -343,7 +348,17 @@ class Lab:
 
         def mute():
             os.dup2(os.open("/dev/full", os.O_WRONLY), 1)
+        before = f"{self.folder}/var/lib/ncroute/full"
+        for start, days, _ in HISTORIES:
+            path = pathlib.Path(before, start, "00000000000000000000.history")
+            path.parent.mkdir(parents=True)
+            path.touch()
+            os.utime(path, (then := time.time() - days * 86400, then))
         full, mute = self.start("ncroute", "full", fill), self.start("ncroute", "mute", mute)
+        answers = self.operate("full", "neighbours")
+        self.judge("segments as the file says", "--segments" not in full.words(), full.words())
+        left = [(start, days, os.path.exists(f"{before}/{start}")) for start, days, _ in HISTORIES]
+        self.judge("histories of long ago", answers == ["neighbours"] and tuple(left) == HISTORIES, (answers, left))
         answers = self.operate("full", *["show 0"] * MOST_BYTES, "quit")
         self.judge("a full disk", answers[-1] == "ok" and full.is_over() and full.results == [4], (answers[-1], full.results))
         self.judge("a full disk is told", "its end is not saved" in "\n".join(full.lines()), full.lines())

@@ -1,4 +1,6 @@
 """The documents, README.md and those of `docs/`, and the examples in them."""
+import re
+
 from lib.program import TOP
 
 
@@ -22,3 +24,12 @@ def examples(text):
         elif found and not line.startswith("    "):
             found.append(("", None))
     return [(command, "".join(wanted)) for command, wanted in found if wanted is not None]
+
+
+def shown_files(text):
+    """The files of `/etc/ncroute` that a document shows, by their names: each of them below the paragraph that names it last."""
+    found = {}
+    for paragraph, block in re.findall(r"(?m)^((?:\S.*\n)+)\n((?: {4}(?!\w+[$#>:] ).*\n)+)", text):
+        if named := re.findall(r"`/etc/ncroute/([\w.]+)`", paragraph):
+            found[named[-1]] = re.sub("(?m)^ {4}", "", block)
+    return found

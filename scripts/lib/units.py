@@ -64,10 +64,11 @@ def words_of(line):
 
 
 class Service:
-    """A service of a unit, by the name behind `@`. Whatever it writes is in `log`, as in a journal. `prepare` is what its main process does first."""
+    """A service of a unit, by the name behind `@`. Whatever it writes is in `log`, as in a journal. `prepare` is what its main process does first,
+    and `inside` the words before its command that have it run elsewhere, as in a namespace."""
 
-    def __init__(self, unit, name, root, prepare=None):
-        self.unit, self.name, self.root, self.prepare = unit, name, root, prepare
+    def __init__(self, unit, name, root, prepare=None, inside=()):
+        self.unit, self.name, self.root, self.prepare, self.inside = unit, name, root, prepare, inside
         self.log = os.path.join(root, f"{unit.name}.{name}.log")
         self.process, self.results, self.is_stopped, self.starting = None, [], threading.Event(), threading.Lock()
         self.thread = threading.Thread(target=self.run, daemon=True)
@@ -143,7 +144,7 @@ class Service:
 
     def begin(self, log):
         """Starts its main process, unless it was stopped: whether there is one."""
-        words, environment = self.command(self.unit.last("ExecStart")), {**os.environ, **self.environment()}
+        words, environment = [*self.inside, *self.command(self.unit.last("ExecStart"))], {**os.environ, **self.environment()}
         with self.starting:
             if not self.is_stopped.is_set():
                 self.process = subprocess.Popen(words, stdin=subprocess.DEVNULL, stdout=log, stderr=log, start_new_session=True, env=environment,
@@ -174,6 +175,10 @@ class Service:
         with contextlib.suppress(ProcessLookupError):
             if self.is_running():
                 os.killpg(self.process.pid, number)
+
+    def words(self):
+        """The words of its main process."""
+        return pathlib.Path(f"/proc/{self.process.pid}/cmdline").read_text(encoding="utf-8").split("\0")[:-1]
 
     def is_running(self):
         return self.process is not None and self.process.poll() is None
