@@ -24,7 +24,7 @@ int main(int argc, char **argv) {
     fclose(file);
     gomthau_filter filter = {0};
     gomthau_refused refused;
-    if (gomthau_filter_open(text, length, (uint32_t)atoi(argv[1]), &filter, &refused, NULL, 0)) return 1;
+    if (gomthau_filter_open((gomthau_text){text, length}, (uint32_t)atoi(argv[1]), &filter, &refused, (gomthau_words){NULL, 0})) return 1;
     char line[200];
     while (count < MOST && fgets(line, sizeof line, stdin)) count += (size_t)read_route(line, &routes[count]);
     unsigned rounds = (unsigned)atoi(argv[3]);
@@ -34,10 +34,10 @@ int main(int argc, char **argv) {
         for (unsigned r = 0; r < rounds; r++) {
             accepted = 0;
             for (size_t i = 0; i < count; i++)
-                accepted += gomthau_filter_run(&filter, routes[i].address, routes[i].length, routes[i].metric).verdict == GOMTHAU_ACCEPTED;
+                accepted += gomthau_filter_run(&filter, routes[i]).verdict == GOMTHAU_ACCEPTED;
         }
         double middle = now();
-        for (unsigned r = 0; r < rounds; r++) gomthau_filter_run_all(&filter, routes, count, answers, count);
+        for (unsigned r = 0; r < rounds; r++) gomthau_filter_run_all(&filter, (gomthau_routes){routes, count}, (gomthau_answers){answers, count});
         double end = now();
         if (middle - start < one) one = middle - start;
         if (end - middle < all) all = end - middle;

@@ -19,7 +19,8 @@ fi
 prefix="${1:-/usr/local}"
 mkdir -p "$prefix"
 prefix="$(cd "$prefix" && pwd)"
-version=1.0.0
+version="$(sed -n 's/^#define GOMTHAU_FILTER_VERSION "\(.*\)"$/\1/p' "$top/include/gomthau_filter.h")"
+shared="libgomthau_filter.so.${version%%.*}"
 folder="$(mktemp -d)"
 trap 'rm -rf "$folder"' EXIT
 if [ -n "${FILTER_C:-}" ]; then
@@ -38,13 +39,16 @@ cp "$(dirname "$(rt doc)")/c/liblibc_c.a" "$folder/heap.a"
 
 # The shared object shows the calls of the header and nothing else.
 echo '{ global: gomthau_filter_*; local: *; };' >"$folder/calls"
-"${CC:-cc}" -shared -o "$folder/libgomthau_filter.so" -Wl,-soname,libgomthau_filter.so.0 -Wl,--version-script,"$folder/calls" \
+"${CC:-cc}" -shared -o "$folder/libgomthau_filter.so" -Wl,-soname,"$shared" -Wl,--version-script,"$folder/calls" \
     -Wl,--whole-archive "$folder/libgomthau_filter.a" -Wl,--no-whole-archive -Wl,-s
 
 install -D -m 644 "$top/include/gomthau_filter.h" "$prefix/include/gomthau_filter.h"
 install -D -m 644 "$folder/libgomthau_filter.a" "$prefix/lib/libgomthau_filter.a"
-install -D -m 755 "$folder/libgomthau_filter.so" "$prefix/lib/libgomthau_filter.so.0"
-ln -sf libgomthau_filter.so.0 "$prefix/lib/libgomthau_filter.so"
+install -D -m 755 "$folder/libgomthau_filter.so" "$prefix/lib/$shared"
+ln -sf "$shared" "$prefix/lib/libgomthau_filter.so"
+# A program that is built by these flags finds the shared object where it is now. In /usr the system finds it.
+path="-Wl,-rpath,\${libdir} "
+if [ "$prefix" = /usr ]; then path=""; fi
 cat >"$folder/gomthau_filter.pc" <<EOF
 prefix=$prefix
 includedir=\${prefix}/include
@@ -54,7 +58,8 @@ Name: gomthau_filter
 Description: Verified route filters
 Version: $version
 Cflags: -I\${includedir}
-Libs: -L\${libdir} -lgomthau_filter
+Libs: -L\${libdir} ${path}-lgomthau_filter
 EOF
 install -D -m 644 "$folder/gomthau_filter.pc" "$prefix/lib/pkgconfig/gomthau_filter.pc"
 echo "installed in $prefix: include/gomthau_filter.h, lib/libgomthau_filter.a, lib/libgomthau_filter.so, lib/pkgconfig/gomthau_filter.pc"
+echo "for programs that are not built by the flags of pkg-config, and for Python: ldconfig, or LD_LIBRARY_PATH=$prefix/lib if ldconfig does not look there"

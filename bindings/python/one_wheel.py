@@ -4,7 +4,7 @@ import hashlib
 import os
 import zipfile
 
-NAME, VERSION = "gomthau_filter", "1.0.0"
+NAME, VERSION = "gomthau_filter", "0.1.0"
 INFO = f"{NAME}-{VERSION}.dist-info"
 SUMMARY = "Verified route filters: texts in a part of BIRD's language, which are verified once and then answer routes"
 

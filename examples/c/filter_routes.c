@@ -26,7 +26,7 @@ static char *read_text(const char *path, size_t *length) {
 static int open_filter(const char *path, const char *text, size_t length, uint32_t size, gomthau_filter *filter) {
     gomthau_refused refused;
     char words[500];
-    switch (gomthau_filter_open(text, length, size, filter, &refused, words, sizeof words)) {
+    switch (gomthau_filter_open((gomthau_text){text, length}, size, filter, &refused, (gomthau_words){words, sizeof words})) {
     case GOMTHAU_DONE:
         return 1;
     case GOMTHAU_REFUSED:
@@ -57,7 +57,7 @@ int main(int argc, char **argv) {
     gomthau_route route;
     while (fgets(line, sizeof line, stdin))
         if (read_route(line, &route))
-            write_answer(gomthau_filter_run(&filter, route.address, route.length, route.metric));
+            write_answer(gomthau_filter_run(&filter, route));
         else
             puts("no route");
     gomthau_filter_close(&filter);

@@ -14,7 +14,7 @@ struct job {
 
 static void *work(void *given) {
     struct job *job = given;
-    gomthau_filter_run_all(&job->filter, job->routes, job->count, job->answers, job->count);
+    gomthau_filter_run_all(&job->filter, (gomthau_routes){job->routes, job->count}, (gomthau_answers){job->answers, job->count});
     gomthau_filter_close(&job->filter);
     return NULL;
 }
@@ -35,13 +35,14 @@ int main(int argc, char **argv) {
     fclose(file);
     gomthau_filter filter = {0};
     gomthau_refused refused;
-    if (gomthau_filter_open(text, length, (uint32_t)strtoul(argv[1], NULL, 10), &filter, &refused, NULL, 0)) return 1;
+    uint32_t size = (uint32_t)strtoul(argv[1], NULL, 10);
+    if (gomthau_filter_open((gomthau_text){text, length}, size, &filter, &refused, (gomthau_words){NULL, 0})) return 1;
     char line[200];
     while (count < MOST_ROUTES && fgets(line, sizeof line, stdin)) count += (size_t)read_route(line, &routes[count]);
     for (size_t i = 0; i < workers; i++) {
         size_t from = count * i / workers, to = count * (i + 1) / workers;
-        jobs[i] = (struct job){{0}, routes + from, answers + from, to - from};
-        if (gomthau_filter_share(&filter, &jobs[i].filter)) return 1;
+        jobs[i] = (struct job){gomthau_filter_share(&filter), routes + from, answers + from, to - from};
+        if (!jobs[i].filter.at) return 1;
     }
     /* The handles of the threads keep the filter. */
     gomthau_filter_close(&filter);

@@ -6,7 +6,7 @@
 static inline int read_route(const char *line, gomthau_route *route) {
     unsigned a, b, c, d, length, metric;
     if (sscanf(line, "%u.%u.%u.%u/%u %u", &a, &b, &c, &d, &length, &metric) != 6 || (a | b | c | d | length) > 255) return 0;
-    *route = (gomthau_route){a << 24 | b << 16 | c << 8 | d, metric, (uint8_t)length};
+    *route = (gomthau_route){.address = a << 24 | b << 16 | c << 8 | d, .length = (uint8_t)length, .metric = metric};
     return 1;
 }
 

@@ -49,20 +49,24 @@ static const char TEXT[] = "filter up { if net ~ [ 10.0.0.0/8+, 192.168.0.0/16{2
 static const char WRONG[] = "filter low {\n  rip_metric = 1;\n  print 1;\n}";
 static const unsigned char CODE[] = {0x4e, 0x43, 0x46, 0x32, 0, 0, 0, 0, 1, 0x70};
 
+static gomthau_words room_in(struct given *it) {
+    return (gomthau_words){it->words, sizeof it->words};
+}
+
 static uint32_t opens(struct given *it) {
-    return gomthau_filter_open(TEXT, sizeof TEXT - 1, 16, &it->filter, &it->refused, it->words, sizeof it->words);
+    return gomthau_filter_open((gomthau_text){TEXT, sizeof TEXT - 1}, 16, &it->filter, &it->refused, room_in(it));
 }
 
 static uint32_t refuses(struct given *it) {
-    return gomthau_filter_open(WRONG, sizeof WRONG - 1, 16, &it->filter, &it->refused, it->words, sizeof it->words);
+    return gomthau_filter_open((gomthau_text){WRONG, sizeof WRONG - 1}, 16, &it->filter, &it->refused, room_in(it));
 }
 
 static uint32_t opens_code(struct given *it) {
-    return gomthau_filter_open_code(CODE, sizeof CODE, 16, &it->filter, &it->refused, it->words, sizeof it->words);
+    return gomthau_filter_open_code((gomthau_code){CODE, sizeof CODE}, 16, &it->filter, &it->refused, room_in(it));
 }
 
 static uint32_t refuses_code(struct given *it) {
-    return gomthau_filter_open_code(CODE, sizeof CODE - 1, 16, &it->filter, &it->refused, it->words, sizeof it->words);
+    return gomthau_filter_open_code((gomthau_code){CODE, sizeof CODE - 1}, 16, &it->filter, &it->refused, room_in(it));
 }
 
 static uint32_t bounds(struct given *it) {
@@ -70,7 +74,8 @@ static uint32_t bounds(struct given *it) {
 }
 
 static uint32_t shares(struct given *it) {
-    return gomthau_filter_share(&it->filter, &it->other);
+    it->other = gomthau_filter_share(&it->filter);
+    return it->other.at ? GOMTHAU_DONE : GOMTHAU_NO_MEMORY;
 }
 
 /* Makes a call without its first allocation, without its second, and so on, as long as it makes so many. Where it does without one, as it may for
@@ -94,8 +99,8 @@ static int sweep(const char *name, uint32_t (*call)(struct given *), int is_open
         else
             holds &= answer == wanted;
         told += answer == GOMTHAU_NO_MEMORY;
-        if (given.filter.at) gomthau_filter_close(&given.filter);
-        if (given.other.at) gomthau_filter_close(&given.other);
+        gomthau_filter_close(&given.filter);
+        gomthau_filter_close(&given.other);
         holds &= live == before;
     }
     holds &= told > 0;
@@ -106,12 +111,12 @@ static int sweep(const char *name, uint32_t (*call)(struct given *), int is_open
 /* Runs take no memory. */
 static int runs(void) {
     static struct given given;
-    gomthau_route routes[] = {{0x08080800, 3, 24}, {0x0a000000, 3, 8}};
+    gomthau_route routes[] = {{.address = 0x08080800, .length = 24, .metric = 3}, {.address = 0x0a000000, .length = 8, .metric = 3}};
     gomthau_answer answers[2];
     int holds = opens(&given) == GOMTHAU_DONE;
     nth = 1;
-    gomthau_answer answer = gomthau_filter_run(&given.filter, 0x08080800, 24, 3);
-    gomthau_filter_run_all(&given.filter, routes, 2, answers, 2);
+    gomthau_answer answer = gomthau_filter_run(&given.filter, routes[0]);
+    gomthau_filter_run_all(&given.filter, (gomthau_routes){routes, 2}, (gomthau_answers){answers, 2});
     holds &= nth == 1;
     nth = 0;
     gomthau_filter_close(&given.filter);

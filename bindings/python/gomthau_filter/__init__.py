@@ -5,19 +5,23 @@
     with Filter("filter up { rip_metric = rip_metric + 2; accept; }", 16) as up:
         up.run("10.0.0.0/8", 3)  # 5
 
-The library is `libgomthau_filter.so.0`, where the system looks for libraries, or the file that GOMTHAU_FILTER_LIBRARY names.
+The library is the file that GOMTHAU_FILTER_LIBRARY names. Without that variable it is `libgomthau_filter.so.0`, where the system looks for libraries,
+in `lib` of this Python's own prefix, or in /usr/local/lib. Where it is in none of these, the import raises ImportError, which says so.
 """
 import ctypes
 import ipaddress
 import os
+import sys
 import threading
 from typing import Iterable, List, NamedTuple, Optional, Tuple, Union
 
 __all__ = ["Bounds", "Filter", "Refused"]
+__version__ = "0.1.0"
 
 _DONE, _REFUSED = 0, 1
 _ACCEPTED, _NO_ROUTE = 1, 2
 _WORDS = 512
+_NAMED, _LIBRARY = "GOMTHAU_FILTER_LIBRARY", "libgomthau_filter.so.0"
 
 
 class _Handle(ctypes.Structure):
@@ -41,8 +45,27 @@ class _Bounds(ctypes.Structure):
                 ("reads_prefix", ctypes.c_bool), ("reads_metric", ctypes.c_bool)]
 
 
+def _find() -> ctypes.CDLL:
+    """The library, from the first place that has it."""
+    named = os.environ.get(_NAMED)
+    # A name without a folder is looked for by the system. Python's prefix may be a virtual environment, and /usr/local is where it is installed
+    # unless a prefix is named; the system finds it there as soon as `ldconfig` was run.
+    places = [named] if named else [_LIBRARY, *(os.path.join(prefix, "lib", _LIBRARY) for prefix in (sys.prefix, "/usr/local"))]
+    found = []
+    for place in places:
+        try:
+            return ctypes.CDLL(place)
+        except OSError as why:
+            found.append(str(why))
+    raise ImportError(
+        f"the library of gomthau_filter is not loaded: {'; '.join(found)}. `scripts/install.sh --library PREFIX` installs it as "
+        f"PREFIX/lib/{_LIBRARY}: set {_NAMED} to that path, or have the system look into that folder, by `ldconfig` or LD_LIBRARY_PATH",
+        name=__name__,
+    )
+
+
 def _load() -> ctypes.CDLL:
-    library = ctypes.CDLL(os.environ.get("GOMTHAU_FILTER_LIBRARY", "libgomthau_filter.so.0"))
+    library = _find()
     handle, number, size = ctypes.POINTER(_Handle), ctypes.c_uint32, ctypes.c_size_t
     opens = [ctypes.c_char_p, size, number, handle, ctypes.POINTER(_Refused), ctypes.c_char_p, size]
     for name, result, arguments in (
@@ -70,8 +93,12 @@ class Refused(ValueError):
     """
 
     def __init__(self, code: str, place: int, line: Optional[int], column: Optional[int], words: str):
-        super().__init__(words if line is None else f"{line}:{column}: {words}")
+        # All that it is made of, so that it is made again where it was pickled, as by the process of a pool.
+        super().__init__(code, place, line, column, words)
         self.code, self.place, self.line, self.column, self.words = code, place, line, column, words
+
+    def __str__(self) -> str:
+        return self.words if self.line is None else f"{self.line}:{self.column}: {self.words}"
 
 
 class Bounds(NamedTuple):
@@ -88,7 +115,7 @@ class Bounds(NamedTuple):
     reads_prefix: bool
     """whether an instruction reads the prefix of the route"""
     reads_metric: bool
-    """whether an instruction reads a metric"""
+    """whether an instruction reads a metric; where none does, a prefix is accepted with every metric or with none, but keeps the one received"""
 
 
 def _route(prefix: str, metric: int) -> _Route:
@@ -164,13 +191,19 @@ class Filter:
         return Bounds(*(getattr(found, name) for name in Bounds._fields))
 
     def share(self) -> "Filter":
-        """The same filter with a handle of its own, as for another thread."""
+        """The same filter with a handle of its own, as for another thread. `copy.copy` and `copy.deepcopy` make the same."""
         other = Filter.__new__(Filter)
         other._lock, other._handle = threading.Lock(), _Handle()
         with self._lock:
             if _library.gomthau_filter_share(self._open_handle(), ctypes.byref(other._handle)) != _DONE:
                 raise MemoryError
         return other
+
+    # Two filters with one handle would close it for one another.
+    __copy__ = share
+
+    def __deepcopy__(self, _: object) -> "Filter":
+        return self.share()
 
     def close(self) -> None:
         """Closes it; what was shared stays open. A filter that is closed is closed again to no effect."""

@@ -2,8 +2,8 @@
 //!
 //! **`close` takes the address of the handle** and leaves it empty, so that a handle that is closed is seen to be.
 //!
-//! **`NULL` is replaced in the header.** A slice of Rattle has an address, also one of length 0. So the header has macros of the names of the three
-//! calls that take buffers, which give the library another address in place of `NULL`.
+//! **`NULL` is replaced in the header.** A slice of Rattle has an address, also one of length 0. So the calls of the header
+//! that take buffers give the library another address in place of `NULL`.
 //!
 //! **The C heap is in the installed archive.** The archive that the toolchain makes calls `malloc`, `realloc` and `free` through three functions of
 //! the kit; `install.sh --library` puts them in.
