@@ -236,8 +236,12 @@ class Domains:
                     comes_up("one that read the file again, and one that was started anew", one)
                 said = pathlib.Path(errors).read_text(encoding="utf-8")
                 self.counts.expect("no other domain", not MISTAKEN.search(said), said)
-                with self.start(1, files[1], links[1], [], subprocess.DEVNULL) as one:
-                    said = awaited(lambda: pathlib.Path(errors).read_text(encoding="utf-8"), MISTAKEN.search, PATIENCE, 0.1)
+                # Either end may be closed before it heard the other's greeting, and says nothing then.
+                others = pathlib.Path(folder, "errors of the other")
+                with others.open("wb") as theirs, self.start(1, files[1], links[1], [], theirs) as one:
+                    def texts():
+                        return pathlib.Path(errors).read_text(encoding="utf-8") + others.read_text(encoding="utf-8")
+                    said = awaited(texts, MISTAKEN.search, PATIENCE, 0.1)
                     self.counts.expect("the file before is another domain", MISTAKEN.search(said) and one.ask("neighbours") == "neighbours", said)
 
     def begun_anew(self):
