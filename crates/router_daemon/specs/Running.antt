@@ -62,6 +62,15 @@ pub record RunsOperator (plan : PlanView) (names : Names) (answered : Result ℕ
   pub sets : BeginsWithFilters r plan names first
   pub operator : HasOperator r first.fragment.seen names (linked_nodes plan) answered input left held holds now
 
+-- A router was begun as a plan says: its operator has made no call, and has seen what who opened it has, who set the filters that the plan uses;
+-- and these nodes have links, or may get some.
+pub record HasBegun (plan : PlanView) (names : Names) (r : RouterView) (operators : PassView) (nodes : List ℕ) : Type 0 where
+  pub first : PassView
+  pub sets : BeginsWithFilters r plan names first
+  pub seen : operators.fragment.seen ≡ first.fragment.seen
+  pub no_calls : operators.fragment.mine ≡ []
+  pub are : nodes ≡ linked_nodes plan
+
 -- there was such a router, and such an operator of it
 abbrev pub Operated : PlanView → Names → Result ℕ StreamFault → List ℕ → Option (List ℕ) → Option (List ℕ) → Option (List ℕ) → Type 0
 Operated plan names answered input left held holds =
