@@ -14,11 +14,13 @@ import resource
 import signal
 import subprocess
 import sys
+import tempfile
 import time
 
+from lib.lines import fifos
 from lib.processes import SAVED, awaited, open_files
 from lib.program import built
-from lib.routers import Run
+from lib.routers import HOLD, Run
 from router_feeds import FeedRows
 from router_sizes import MAY_WAIT, SizeRows
 
@@ -31,6 +33,9 @@ MOST_TAKEN, MOST_MEMORY = (1 << 16) + (1 << 13), 4096
 # The least room for entries, and how many messages may wait for a neighbour that never reads. How often how many changes are told meanwhile.
 LEAST_ROOM, MOST_WAITING, BLOCKS, BLOCK = 2_048, 1_000, 2_000, 500
 
+# Seconds: `quit` waits for one second for operators, and for one for the history. The machine may be busy.
+MOST_QUIT = 8.0
+
 # So many kilobytes of memory more than those of queues and entries are no matter.
 SLACK = 1_024
 
@@ -41,6 +46,14 @@ STACK, BESIDE = 8 << 20, 4 << 20
 def memory_of(links, messages, entries):
     """How many kilobytes the entries and the queues of a router have at most, by the formula of DAEMON.md."""
     return (24 * entries + 4 * 16 * entries + 8 * links * (messages + 3 * entries // 8)) // 1024
+
+
+def only_room_for(count):
+    """What has the files of a program take so many bytes at most, until that is changed."""
+    def prepare():
+        signal.signal(signal.SIGXFSZ, signal.SIG_IGN)
+        resource.setrlimit(resource.RLIMIT_FSIZE, (count, resource.RLIM_INFINITY))
+    return prepare
 
 
 def saying(text):
@@ -243,9 +256,10 @@ class Rows(FeedRows, SizeRows):
             self.judge("its Down is entered", len(downs) == 1, downs)
 
     def row_out_breaks(self):
-        """Node 1 closes what it is told, and says something after its session is over."""
+        """Node 1 closes what it is told, and says something after its session is over, and nothing before."""
         with Run(self.program) as run:
             one = run.neighbours[1]
+            one.hold = 0
             one.come()
             self.judge("1 hears", one.hear(b"7 8\n"))
             one.close_one("reads")
@@ -262,6 +276,7 @@ class Rows(FeedRows, SizeRows):
         """Node 1 closes what it is told, and says nothing: that is told at once, and once. Once it has ended, it can come again."""
         with Run(self.program, more=("--retry", "1")) as run:
             one = run.neighbours[1]
+            one.hold = 0
             one.come()
             self.judge("1 hears", one.hear(b"7 8\n"))
             one.close_one("reads")
@@ -405,12 +420,9 @@ class Rows(FeedRows, SizeRows):
             self.judge("replay", said.startswith(("cut ", "replay ok ")), said)
 
     def row_disk_has_room_again(self):
-        """The disk is full for longer than there is room for entries in memory: nothing is forgotten, and the link waits. Once there is room, all
-        is saved, and each message is entered."""
-        def prepare():
-            signal.signal(signal.SIGXFSZ, signal.SIG_IGN)
-            resource.setrlimit(resource.RLIMIT_FSIZE, (4096, resource.RLIM_INFINITY))
-        with Run(self.program, more=("--limit", str(LEAST_ROOM)), prepare=prepare) as run:
+        """The disk is full for longer than there is room for entries in memory, and than the HOLD of node 2: nothing is forgotten, and the link waits.
+        Once there is room, all is saved, and each message is entered."""
+        with Run(self.program, more=("--limit", str(LEAST_ROOM)), prepare=only_room_for(4096)) as run:
             self.serve_two(run)
             run.neighbours[2].say(b"3 8\n3 9\n" * LEAST_ROOM + b"4 0\n")
             self.says(run, "history: the history could not be written (E2): not saved until that works again\n")
@@ -418,6 +430,7 @@ class Rows(FeedRows, SizeRows):
             self.judge("the room is full", answer == f"refused J1 {LEAST_ROOM}", answer)
             answer = run.ask("history 0")
             self.judge("nothing is forgotten", answer.startswith("history 0 up 2 opened 1 | "), answer[:100])
+            time.sleep(2 * HOLD)
             self.judge("2 is up", run.ask("neighbours") == "neighbours 2:1", run.ask("neighbours"))
             resource.prlimit(run.process.pid, resource.RLIMIT_FSIZE, (resource.RLIM_INFINITY, resource.RLIM_INFINITY))
             self.says(run, "history: saved again\n")
@@ -425,6 +438,67 @@ class Rows(FeedRows, SizeRows):
             self.end(run)
             received = sum(" recv 1 3 " in entry for entry in run.saved())
             self.judge("each is entered, and saved", received == 2 * LEAST_ROOM, received)
+
+    def row_full_disk_between_routers(self):
+        """Two routers, of which one has a disk that is full, and no room in memory, for three HOLDs: neither finds the other one silent. Once there is
+        room, each message that waited is entered."""
+        hold = ("--hold", str(HOLD))
+        with tempfile.TemporaryDirectory(prefix="between.") as folder, contextlib.ExitStack() as stack:
+            there, back = fifos(folder, "there", "back")
+            full = stack.enter_context(Run(self.program, nodes=(), prepare=only_room_for(4096),
+                                           more=("--limit", str(LEAST_ROOM), "--link", f"1={back},{there}", *hold)))
+            other = stack.enter_context(Run(self.program, nodes=(2,), node=1, saves=False, more=("--link", f"0={there},{back}", *hold)))
+            two, asked = other.neighbours[2], ((full, "neighbours 1:1"), (other, " 0:"))
+            two.come()
+            for run, wanted in asked:
+                run.asks_until("neighbours", wanted)
+            before = [run.ask("neighbours") for run, _ in asked]
+            two.say(b"3 0\n4 0\n5 0\n6 0\n3 1\n4 1\n5 1\n6 1\n" * LEAST_ROOM + b"7 0\n")
+            self.says(full, "history: the history could not be written (E2): not saved until that works again\n")
+            answer = full.asks_until("show 2", f"^refused J1 {LEAST_ROOM}$")
+            self.judge("the room is full", answer == f"refused J1 {LEAST_ROOM}", answer)
+            time.sleep(3 * HOLD)
+            self.judge("both stay up", [run.ask("neighbours") for run, _ in asked] == before, before)
+            resource.prlimit(full.process.pid, resource.RLIMIT_FSIZE, (resource.RLIM_INFINITY, resource.RLIM_INFINITY))
+            self.says(full, "history: saved again\n")
+            self.judge("the last message is entered", full.routes_until(7, "2:1"))
+            self.judge("both are up still", [run.ask("neighbours") for run, _ in asked] == before, before)
+            for run, _ in asked:
+                said = run.said("", patience=0)
+                self.judge("no link was closed", "closed" not in said, said)
+            self.end(full)
+            self.judge("quit", other.quit() == ("ok", 0))
+
+    def row_quits_with_many_links_and_a_full_disk(self):
+        """The disk is full, and there is no room in memory: `quit` takes a second or two for all links, however many there are."""
+        with Run(self.program, nodes=range(1, 21), size=30, more=("--limit", str(LEAST_ROOM)), prepare=only_room_for(8192)) as run:
+            for one in run.neighbours.values():
+                one.come(size=30)
+            run.asks_until("neighbours", "(?: [0-9]+:[0-9]+){20}$")
+            run.neighbours[2].say(b"3 28\n3 29\n" * LEAST_ROOM)
+            run.asks_until("show 2", f"^refused J1 {LEAST_ROOM}$")
+            begun = time.monotonic()
+            answer = run.quit()
+            took = time.monotonic() - begun
+            self.judge("quit", answer == ("ok", 4), answer)
+            self.judge("it takes no second for each link", took < MOST_QUIT, took)
+
+    def row_quits_while_a_line_waits(self):
+        """An operator's line waits for a FIFO that nobody writes to: `quit` of another one ends the router all the same, its Downs entered."""
+        with tempfile.TemporaryDirectory(prefix="waits.") as folder:
+            there, back, text = fifos(folder, "there", "back", "text")
+            with Run(self.program, more=("--control", f"{there},{back}")) as run:
+                self.serve_two(run)
+                with open(there, "wb", buffering=0) as says, open(back, "rb"):
+                    says.write(b"read far %s\n" % text.encode())
+                    time.sleep(0.2)
+                    begun = time.monotonic()
+                    answer = run.quit()
+                    took = time.monotonic() - begun
+                self.judge("quit", answer == ("ok", 0), answer)
+                self.judge("nobody waits for the line", took < MOST_QUIT, took)
+                downs = [entry for entry in run.saved() if " down 1 done " in entry]
+                self.judge("its Down is entered", len(downs) == 1, downs)
 
     def row_folder_is_there(self):
         """A folder that is there already is not written to, and nothing is started."""

@@ -1,5 +1,6 @@
 """Runs of `ncroute router` with neighbours that are no routers, and the rows that look at such runs."""
 import concurrent.futures
+import contextlib
 import errno
 import fcntl
 import os
@@ -10,6 +11,7 @@ import shutil
 import signal
 import sys
 import tempfile
+import threading
 import time
 import traceback
 
@@ -18,6 +20,9 @@ from lib.lines import has_open
 from lib.processes import PATIENCE, Delays, Router, awaited, preloaded
 
 SIZE = 8
+
+# Seconds: a neighbour that is played may be silent for so long, and says as often as that that it is there.
+HOLD, THERE = 2, 0.4
 
 # What Linux calls the question how many bytes a FIFO holds: 65,536 where a page has 4,096 bytes, and more where pages are larger.
 F_GETPIPE_SZ = 1032
@@ -32,6 +37,8 @@ class Neighbour:
         self.number, self.answered = 1, None
         self.there, self.back = (os.path.join(folder, f"{node}.{end}") for end in ("in", "out"))
         self.writes = self.reads = None
+        # Its HOLD, whether it has greeted with that, and whether what it said last ends within a line. One at a time says something.
+        self.hold, self.has_hold, self.is_within_line, self.saying = 0, False, False, threading.Lock()
         for path in (self.there, self.back):
             os.mkfifo(path)
 
@@ -71,14 +78,16 @@ class Neighbour:
         lines = self.told[self.before:].split(b"\n")[:-1]
         return [tuple(map(int, line.split()[5:7])) for line in lines if line.startswith(b"netchange ")]
 
-    def greet(self, size=SIZE, node=None, hold=0):
+    def greet(self, size=SIZE, node=None, hold=None):
         """Answers the greeting that the router wrote last by one of its own: then the router is up."""
         self.listen(self.greetings)
         found = self.greetings()
         if not found:
             raise BrokenPipeError("the router ended before it greeted")
         self.answered = found[-1][0]
-        self.say(b"netchange 2 %d %d %d %d %d\n" % (size, self.node if node is None else node, hold, self.number, self.answered))
+        said = self.hold if hold is None else hold
+        self.say(b"netchange 2 %d %d %d %d %d\n" % (size, self.node if node is None else node, said, self.number, self.answered))
+        self.has_hold = hold is None and self.hold > 0
 
     def has_met(self, size):
         """Whether the router's last greeting repeats that of this neighbour. It is answered, if that was not done yet."""
@@ -99,17 +108,34 @@ class Neighbour:
         self.meet(size)
 
     def say(self, text):
-        while text:
-            text = text[os.write(self.writes, text):]
+        with self.saying:
+            self.is_within_line = not text.endswith(b"\n")
+            while text:
+                text = text[os.write(self.writes, text):]
+
+    def say_there(self):
+        """Says that it is there by an empty line, unless it says something else or nobody reads it now."""
+        if not self.has_hold or not self.saying.acquire(blocking=False):
+            return
+        try:
+            asked = select.poll()
+            if self.writes is not None and not self.is_within_line:
+                asked.register(self.writes, select.POLLOUT)
+                if asked.poll(0) == [(self.writes, select.POLLOUT)]:
+                    os.write(self.writes, b"\n")
+        except OSError:
+            # Its stream has ended.
+            pass
+        finally:
+            self.saying.release()
 
     def say_without_end(self, count):
         """Says so many bytes without a line feed, or as many as are taken: how many were."""
         taken, some = 0, b"x" * (1 << 16)
-        try:
+        with self.saying, contextlib.suppress(BrokenPipeError):
+            self.is_within_line = True
             while taken < count:
                 taken += os.write(self.writes, some[:count - taken])
-        except BrokenPipeError:
-            pass
         return taken
 
     def holds(self):
@@ -160,9 +186,12 @@ class Neighbour:
             self.close_one(name)
 
     def close_one(self, name):
-        if getattr(self, name) is not None:
-            os.close(getattr(self, name))
-            setattr(self, name, None)
+        with self.saying:
+            if getattr(self, name) is not None:
+                os.close(getattr(self, name))
+                setattr(self, name, None)
+            if name == "writes":
+                self.has_hold = False
 
 
 class Run(Router):
@@ -175,17 +204,30 @@ class Run(Router):
         self.errors = pathlib.Path(self.folder, "errors")
         # A small library has the program sleep so many times less long.
         sleeps = {**preloaded("quick_sleep.c", self.folder), "QUICKER": str(quicker)} if quicker else {}
+        for neighbour in self.neighbours.values():
+            neighbour.hold = HOLD
         for other in early:
             self.neighbours[other].open_early()
         links = {other: (neighbour.there, neighbour.back) for other, neighbour in self.neighbours.items()}
         history = os.path.join(self.folder, "history") if saves else None
+        # Neighbours that have a HOLD say that they are there.
+        self.is_over = threading.Event()
+        self.there = threading.Thread(target=self.say_there, daemon=True)
+        self.there.start()
         # Standard error is this file, unless another one is given.
         with open(self.errors, "wb") as told:
             super().__init__(program, size, node, links, history, more, errors=told if errors is None else errors, preexec_fn=prepare,
                              env={**os.environ, **(environment or {}), **sleeps})
 
+    def say_there(self):
+        while not self.is_over.wait(THERE):
+            for neighbour in self.neighbours.values():
+                neighbour.say_there()
+
     def close(self):
         super().close()
+        self.is_over.set()
+        self.there.join()
         for neighbour in self.neighbours.values():
             neighbour.close()
         shutil.rmtree(self.folder)

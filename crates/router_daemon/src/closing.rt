@@ -1,7 +1,6 @@
 //! A router is closed.
 ghost use Rattle.router_daemon.specs.Passes.{IsLegalPass};
 
-use crate::owed_downs::passes;
 use crate::shared::Shared;
 use neighbour_session::{enter_down, pause};
 use router_operator::Naming;
@@ -29,47 +28,81 @@ fn end_sessions<R: Wait + Clock, J: Naming, E: Write>(rt: &R, shared: &Shared<J,
     shared.signals.await_no_change(rt);
 }
 
-/// How often the Down of a session is tried, where the history is full: for a second. Nobody waits for ever until there is room.
+/// How often the Downs that are refused are tried, all of them: for a second. Nobody waits for ever until there is room.
 const TRIES: u32 = 200;
 
-/// Enters the Down of a session, and notes it. Where the history is full, it is tried again for a while.
+/// Enters the Down of a session, and notes it. False where it is refused: the history is full, or there is no memory.
 fn enter_last<R: Wait + Clock, J: Naming, E: Write>(
     rt: &R,
     shared: &Shared<J, E>,
     pass: &mut Pass,
     session: u32,
-)
+) -> bool
     requires { IsLegalPass J.router pass.old }
     ensures { IsLegalPass J.router pass.new }
 {
-    for _ in 0..TRIES {
-        match enter_down(rt, &shared.router, pass, session) {
-            Ok(answer) => {
-                shared.signals.note(rt, &answer);
-                return;
-            }
-            Err(why) => {
-                if !passes(why) {
-                    return;
-                }
-                pause(rt);
-            }
+    match enter_down(rt, &shared.router, pass, session) {
+        Ok(answer) => {
+            shared.signals.note(rt, &answer);
+            true
         }
+        Err(_) => false,
     }
 }
 
-/// Enters the Down of the session of a link that is over, if it is not entered.
+/// Enters the Down of the session of a link that is over, if it is not entered. False where it is refused.
 fn close_link<R: Wait + Clock, J: Naming, E: Write>(
     rt: &R,
     shared: &Shared<J, E>,
     pass: &mut Pass,
     link: usize,
+) -> bool
+    requires { IsLegalPass J.router pass.old }
+    ensures { IsLegalPass J.router pass.new }
+{
+    let Some(session) = shared.signals.take_owed(rt, link) else {
+        return true;
+    };
+    let is_entered = enter_last(rt, shared, pass, session);
+    if !is_entered {
+        shared.signals.owe(rt, link, session);
+    }
+    is_entered
+}
+
+/// Enters the Downs of the sessions of the first `count` links that are over and whose Downs are not entered. False where one is refused.
+fn close_each<R: Wait + Clock, J: Naming, E: Write>(
+    rt: &R,
+    shared: &Shared<J, E>,
+    pass: &mut Pass,
+    count: usize,
+) -> bool
+    requires { IsLegalPass J.router pass.old }
+    ensures { IsLegalPass J.router pass.new }
+{
+    let mut are_entered = true;
+    for link in 0..count {
+        let is_entered = close_link(rt, shared, pass, link);
+        are_entered = are_entered && is_entered;
+    }
+    are_entered
+}
+
+/// Enters the last Downs. Those that are refused are tried again for a while: one time for all links, however many there are.
+fn enter_last_downs<R: Wait + Clock, J: Naming, E: Write>(
+    rt: &R,
+    shared: &Shared<J, E>,
+    pass: &mut Pass,
+    count: usize,
 )
     requires { IsLegalPass J.router pass.old }
     ensures { IsLegalPass J.router pass.new }
 {
-    if let Some(session) = shared.signals.take_owed(rt, link) {
-        enter_last(rt, shared, pass, session);
+    for _ in 0..TRIES {
+        if close_each(rt, shared, pass, count) {
+            return;
+        }
+        pause(rt);
     }
 }
 
@@ -86,9 +119,7 @@ pub(crate) fn close_links<R: Wait + Clock, J: Naming, E: Write>(
     shared.signals.request_gate.close(rt);
     let count = close(rt, shared);
     end_sessions(rt, shared, count);
-    for link in 0..count {
-        close_link(rt, shared, pass, link);
-    }
+    enter_last_downs(rt, shared, pass, count);
 }
 
 /// Waits for ever.

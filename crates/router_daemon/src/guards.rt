@@ -44,6 +44,23 @@ impl<'a> LinkGuard<'a> {
             reads: true,
         }
     }
+
+    /// Waits until there is room behind an entry that this one made.
+    ///
+    /// **Silence counts only while somebody listens.** Who reads hears nobody meanwhile, so the neighbour counts as heard. Who writes waits no longer
+    /// than until a line is due, so that the neighbour hears this router however long the disk takes.
+    fn await_room<R: Wait + Clock>(&self, rt: &R, at: u64) {
+        for _ in rt.forever() {
+            if self.signals.has_room_soon(rt, at) {
+                return;
+            }
+            if self.reads {
+                self.signals.stations.note_heard(rt, self.link);
+            } else if self.signals.stations.is_due(rt, self.link) {
+                return;
+            }
+        }
+    }
 }
 
 /// One of those who served a session of a link, once it is over for this one.
@@ -109,6 +126,8 @@ impl<'a> Gate for LinkGuard<'a> {
         if job == READER {
             self.signals.records.note_received(rt, self.link);
         }
+        self.signals.note_served(rt, self.link, answer);
+        self.await_room(rt, answer.at);
         if let Reply::Messages(messages) = &answer.reply {
             let count = messages.as_slice().len();
             if count > 0 {
@@ -116,8 +135,6 @@ impl<'a> Gate for LinkGuard<'a> {
                 self.signals.records.note_sent(rt, self.link, count);
             }
         }
-        self.signals.note_served(rt, self.link, answer);
-        self.signals.await_room(rt, answer.at);
     }
 }
 
@@ -133,6 +150,10 @@ impl<'a> SessionGuard for LinkGuard<'a> {
     type EndedGuard = EndedLinkGuard<'a>;
 
     fn is_present<R: Wait + Clock>(&self, rt: &R) -> bool {
+        if self.reads {
+            // Who reads asks this while it waits for room, too, and hears nobody then.
+            self.signals.stations.note_heard(rt, self.link);
+        }
         self.signals.session(rt, self.link) == Some(self.session)
     }
 

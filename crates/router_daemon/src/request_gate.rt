@@ -5,7 +5,9 @@
 
 use line_protocol::{LineReply, Service};
 use std::alloc::{AllocError, Global};
+use std::rt::Clock;
 use std::sync::{Condvar, Mutex, Wait};
+use std::time::Duration;
 
 /// What a gate knows of the lines that pass it.
 #[derive(Drop)]
@@ -16,7 +18,14 @@ struct GateState {
     has_quit: bool,
     /// No line is answered any more.
     is_closed: bool,
+    /// Nobody waits any more for those that are being answered.
+    is_left: bool,
 }
+
+/// How often who closes a gate looks for lines that are being answered, and how many milliseconds it waits each time: for a second in all.
+const LOOKS: u32 = 100;
+
+const WAIT: u64 = 10;
 
 /// The gate that each line passes, but for those of standard input, whose lines are over where the router ends.
 #[derive(Drop)]
@@ -33,6 +42,7 @@ impl RequestGate {
                 active: 0,
                 has_quit: false,
                 is_closed: false,
+                is_left: false,
             }),
             condvar: Condvar::new(),
         }
@@ -48,12 +58,19 @@ impl RequestGate {
         true
     }
 
-    /// It is answered.
+    /// It is answered. Where nobody waits for that any more this never returns: what is answered is saved, and this would not be. The thread ends
+    /// with the process.
     fn end<R: Wait>(&self, rt: &R) {
         let mut state = self.state.lock(rt);
-        state.active = state.active.saturating_sub(1);
-        drop(state);
-        self.condvar.notify_all();
+        for _ in rt.forever() {
+            if !state.is_left {
+                state.active = state.active.saturating_sub(1);
+                drop(state);
+                self.condvar.notify_all();
+                return;
+            }
+            state = self.condvar.wait(rt, state);
+        }
     }
 
     /// An operator ends the router.
@@ -73,16 +90,18 @@ impl RequestGate {
         }
     }
 
-    /// Closes the gate, and waits for the lines that are being answered.
-    pub(crate) fn close<R: Wait>(&self, rt: &R) {
+    /// Closes the gate, and waits for the lines that are being answered, for a second at most: one may wait for a file, or compare filters.
+    pub(crate) fn close<R: Wait + Clock>(&self, rt: &R) {
         let mut state = self.state.lock(rt);
         state.is_closed = true;
-        for _ in rt.forever() {
+        for _ in 0..LOOKS {
             if state.active == 0 {
                 return;
             }
-            state = self.condvar.wait(rt, state);
+            let longest = Duration::from_millis(WAIT);
+            state = self.condvar.wait_timeout(rt, state, longest).0;
         }
+        state.is_left = state.active > 0;
     }
 }
 

@@ -13,7 +13,7 @@ use crate::stations::Stations;
 use crate::status::status_of;
 use crate::telling::Event;
 use crate::wanted::WantedLinks;
-use crate::watching::now;
+use crate::watching::{LOOK, now};
 use filter_verifier::Verified;
 use history_saver::FolderSize;
 use link_handshake::Speaker;
@@ -116,6 +116,14 @@ fn closing_of(states: &LinkStates) -> Option<Closing>
         Some(Closing { of: () })
     } else {
         None
+    }
+}
+
+/// Whether there is room for more than the entry at this position, where callers wait for room from some position on, or none of them waits.
+fn is_room(end: Option<u64>, at: u64) -> bool {
+    match end {
+        Some(end) => at < end,
+        None => true,
     }
 }
 
@@ -363,12 +371,24 @@ impl Signals {
     pub(crate) fn await_room<R: Wait>(&self, rt: &R, at: u64) {
         let mut end = self.room_end.lock(rt);
         for _ in rt.forever() {
-            match *end {
-                Some(end) if at >= end => {}
-                _ => return,
+            if is_room(*end, at) {
+                return;
             }
             end = self.room_condvar.wait(rt, end);
         }
+    }
+
+    /// Whether there is room for more than the entry at this position. Where there is none, the caller sleeps first until there is, a fifth of a
+    /// second at most.
+    pub(crate) fn has_room_soon<R: Wait + Clock>(&self, rt: &R, at: u64) -> bool {
+        let mut end = self.room_end.lock(rt);
+        if !is_room(*end, at) {
+            end = self
+                .room_condvar
+                .wait_timeout(rt, end, Duration::from_millis(LOOK))
+                .0;
+        }
+        is_room(*end, at)
     }
 
     /// Notes that a session of a link began.
@@ -413,6 +433,8 @@ impl Signals {
         };
         self.wake(states);
         if begins {
+            // Nobody heard the neighbour while its Up waited for room.
+            self.stations.note_heard(rt, link);
             self.note_up(rt, link, session);
         }
         self.news.note(rt, answer.at);

@@ -49,10 +49,11 @@ fn end_silent<R: Wait + Clock, J: Naming, E: Write>(
 {
     let guard = LinkGuard::new(&shared.signals, link, session);
     let why = SessionEnd::Silent(hold);
-    let (why, ended_guard) = end_session(rt, &shared.router, pass, session, guard, why);
+    let (_, ended_guard) = end_session(rt, &shared.router, pass, session, guard, why);
     ended_guard.note_owed(rt);
     if ended_guard.ended_it() {
-        tell_unless_closed(rt, alloc, shared, node, why);
+        // That is why, also where its Down is refused for now.
+        tell_unless_closed(rt, alloc, shared, node, SessionEnd::Silent(hold));
     }
 }
 
