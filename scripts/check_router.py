@@ -33,6 +33,9 @@ MOST_TAKEN, MOST_MEMORY = (1 << 16) + (1 << 13), 4096
 # The least room for entries, and how many messages may wait for a neighbour that never reads. How often how many changes are told meanwhile.
 LEAST_ROOM, MOST_WAITING, BLOCKS, BLOCK = 2_048, 1_000, 2_000, 500
 
+# A segment has so many entries.
+SEGMENT = 1_000_000
+
 # Seconds: `quit` waits for one second for operators, and for one for the history. The machine may be busy.
 MOST_QUIT = 8.0
 
@@ -468,6 +471,28 @@ class Rows(FeedRows, SizeRows):
                 self.judge("no link was closed", "closed" not in said, said)
             self.end(full)
             self.judge("quit", other.quit() == ("ok", 0))
+
+    def row_no_new_segment(self):
+        """A new segment is due, and cannot be made: the newest goes on, no link waits, and people are told that all is saved. Once one can be made, the
+        history goes on there."""
+        with Run(self.program, more=("--limit", str(LEAST_ROOM))) as run:
+            self.serve_two(run)
+            # The name under which a segment is made is a folder's.
+            in_the_way = os.path.join(run.history, ".next.history")
+            os.mkdir(in_the_way)
+            run.neighbours[2].say(b"3 8\n3 9\n" * (SEGMENT // 2) + b"4 0\n")
+            self.judge("all is entered", run.routes_until(4, "1:2"))
+            self.says(run, "history: all is saved, but no new segment could be made, or no old one removed (E2)\n")
+            run.neighbours[2].say(b"3 8\n3 9\n" * LEAST_ROOM * 2 + b"5 0\n")
+            time.sleep(2 * HOLD)
+            self.judge("the next ones are entered", run.routes_until(5, "1:2"))
+            self.judge("one segment has all", awaited(lambda: sum(b"recv" in line for line in run.segments()[0].read_bytes().splitlines()),
+                                                      lambda count: count > SEGMENT + 4 * LEAST_ROOM, SAVED))
+            os.rmdir(in_the_way)
+            run.ask("show 2")
+            self.says(run, "history: saved again\n")
+            self.judge("another one begins", len(run.segments()) == 2, run.segments())
+            self.end(run)
 
     def row_quits_with_many_links_and_a_full_disk(self):
         """The disk is full, and there is no room in memory: `quit` takes a second or two for all links, however many there are."""

@@ -152,6 +152,14 @@ impl<F: SegmentFolder + Drop> SegmentSaver<F> {
         self.saved
     }
 
+    /// Whether all that was read of the history is written. Where that is so after `save` was refused with E2, all that there was is saved, and
+    /// forgotten as after a save: it is a new segment that could not be made, or an old one that could not be removed.
+    pub fn is_whole(&self) -> bool
+        ensures { IsTrue result → self.now.rest ≡ [] }
+    {
+        self.is_written()
+    }
+
     /// How much its folder holds.
     pub fn size(&self) -> FolderSize
         ensures { IfSome self.now.folder (λ v. result ≡ size_of v) }

@@ -65,6 +65,7 @@ event_words (event.Replaced to node name) = replaced_words to node name.now
 event_words (event.Unsaved fault) = saving_words fault (codes "not saved until that works again")
 event_words (event.Lost fault) = saving_words fault (codes "its end is not saved")
 event_words event.Saved = codes "history: saved again"
+event_words event.Unsegmented = codes "history: all is saved, but no new segment could be made, or no old one removed (E2)"
 event_words event.Unkept = codes "history: not saved: only its last entries are kept"
 event_words (event.Deaf fault) = codes "operator: " ++ fault_code fault ++ codes ": no more lines are taken"
 event_words (event.Uncontrolled fault) = codes "control: " ++ open_fault_words fault

@@ -46,8 +46,33 @@ pub(crate) struct MostInMemory {
 enum BoundingState {
     /// So many entries were looked at, and are saved, if the history is.
     Bounded(u64),
+    /// So are so many, and saved; but a new segment could not be made, or an old one not be removed: the newest goes on.
+    GoingOn(u64),
     /// Saving failed. It is tried again after so many milliseconds, of which some are left.
     Failing { wait: u32, left: u32 },
+}
+
+/// What a turn of saving and forgetting came to.
+#[derive(Clone, Copy)]
+enum Turned {
+    /// So many entries were looked at, and are saved, if the history is.
+    Saved(u64),
+    /// So many are saved, but a new segment could not be made, or an old one not be removed.
+    Unsegmented(u64),
+    /// Saving failed.
+    Failed(SaveFault),
+}
+
+/// What a turn came to, by the answer of who forgets.
+fn turned_of<F: SegmentFolder + Drop, J: Naming>(
+    forgetter: &Forgetter<F, J>,
+    answer: Result<u64, SaveFault>,
+) -> Turned {
+    match (answer, forgetter.saved_whole()) {
+        (Ok(looked), _) => Turned::Saved(looked),
+        (Err(SaveFault::Write), Some(saved)) => Turned::Unsegmented(saved),
+        (Err(fault), _) => Turned::Failed(fault),
+    }
 }
 
 /// So many milliseconds.
@@ -87,7 +112,9 @@ fn await_turn<R: Wait + Clock, J: Naming, E: Write>(
     saves: bool,
 ) -> Option<Closing> {
     match state {
-        BoundingState::Bounded(looked) => await_entries(rt, shared, limit, looked, saves),
+        BoundingState::Bounded(looked) | BoundingState::GoingOn(looked) => {
+            await_entries(rt, shared, limit, looked, saves)
+        }
         BoundingState::Failing { left, .. } => {
             shared.signals.make_room(rt, None);
             // No history has so many entries.
@@ -98,30 +125,35 @@ fn await_turn<R: Wait + Clock, J: Naming, E: Write>(
     }
 }
 
-/// Tells people that saving failed, where it did not before, or works again.
+/// Tells people what became of saving, where it is not what it was before.
 fn state_after<R: Wait + Clock, J: Naming, E: Write>(
     rt: &R,
     alloc: Global,
     shared: &Shared<J, E>,
     before: BoundingState,
-    turned: Result<u64, SaveFault>,
+    turned: Turned,
 ) -> BoundingState {
     match (before, turned) {
-        (BoundingState::Bounded(_), Ok(looked)) => BoundingState::Bounded(looked),
-        (BoundingState::Failing { .. }, Ok(looked)) => {
+        (BoundingState::Bounded(_), Turned::Saved(looked)) => BoundingState::Bounded(looked),
+        (_, Turned::Saved(looked)) => {
             shared.tell(rt, alloc, Event::Saved);
             BoundingState::Bounded(looked)
         }
-        (BoundingState::Bounded(_), Err(fault)) => {
+        (BoundingState::GoingOn(_), Turned::Unsegmented(saved)) => BoundingState::GoingOn(saved),
+        (_, Turned::Unsegmented(saved)) => {
+            shared.tell(rt, alloc, Event::Unsegmented);
+            BoundingState::GoingOn(saved)
+        }
+        (BoundingState::Failing { wait, .. }, Turned::Failed(_)) => {
+            let wait = next_wait(REST, Some(wait), MINUTE);
+            BoundingState::Failing { wait, left: wait }
+        }
+        (_, Turned::Failed(fault)) => {
             shared.tell(rt, alloc, Event::Unsaved(fault));
             BoundingState::Failing {
                 wait: REST,
                 left: REST,
             }
-        }
-        (BoundingState::Failing { wait, .. }, Err(_)) => {
-            let wait = next_wait(REST, Some(wait), MINUTE);
-            BoundingState::Failing { wait, left: wait }
         }
     }
 }
@@ -131,9 +163,9 @@ fn note_saved<R: Wait, J: Naming, E: Write>(
     rt: &R,
     shared: &Shared<J, E>,
     size: Option<FolderSize>,
-    turned: Result<u64, SaveFault>,
+    turned: Turned,
 ) {
-    if let (Some(size), Ok(entries)) = (size, turned) {
+    if let (Some(size), Turned::Saved(entries) | Turned::Unsegmented(entries)) = (size, turned) {
         *shared.signals.saved.lock(rt) = Some(Saved { entries, size });
     }
 }
@@ -156,7 +188,8 @@ fn turn<R: Wait + Clock, F: SegmentFolder + Drop, J: Naming, E: Write>(
                 left: left - SECOND,
             },
         _ => {
-            let turned = forgetter.turn(rt, alloc, shared);
+            let answer = forgetter.turn(rt, alloc, shared);
+            let turned = turned_of(forgetter, answer);
             note_saved(rt, shared, forgetter.size(), turned);
             state_after(rt, alloc, shared, state, turned)
         }

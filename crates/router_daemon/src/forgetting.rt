@@ -161,6 +161,14 @@ impl<F: SegmentFolder + Drop, J: Naming> Forgetter<F, J> {
         self.saver.is_some()
     }
 
+    /// How many entries are saved, where all that was read of the history is.
+    pub(crate) fn saved_whole(&self) -> Option<u64> {
+        match &self.saver {
+            Some(saver) if saver.is_whole() => Some(saver.saved()),
+            _ => None,
+        }
+    }
+
     /// How much the folder holds, if there is one.
     pub(crate) fn size(&self) -> Option<FolderSize> {
         match &self.saver {

@@ -70,6 +70,8 @@ pub(crate) enum Event<'a> {
     Lost(SaveFault),
     /// The history is saved again.
     Saved,
+    /// All of the history is saved, but no new segment was made, or no old one removed.
+    Unsegmented,
     /// No more of the history is kept than its last entries.
     Unkept,
     /// No line of the operator at standard input is taken any more.
@@ -282,6 +284,9 @@ fn push_event(text: &mut String, event: Event<'_>) -> Result<(), AllocError>
         Event::Unsaved(why) => push_saving(text, why, "not saved until that works again"),
         Event::Lost(why) => push_saving(text, why, "its end is not saved"),
         Event::Saved => text.push_str("history: saved again"),
+        Event::Unsegmented => text.push_str(
+            "history: all is saved, but no new segment could be made, or no old one removed (E2)",
+        ),
         Event::Unkept => text.push_str("history: not saved: only its last entries are kept"),
         Event::Deaf(why) => {
             push_three(text, "operator: ", why.code(), ": no more lines are taken")
