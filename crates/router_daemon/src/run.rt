@@ -419,17 +419,20 @@ fn share<R: Clock, J: Naming, E: Write + Drop>(
     ensures early { IfErr result IsEarly }
 {
     let digest = plan.domain.map(|mark| mark.digest);
-    let shared = shared_of(
+    let shared: Arc<Shared<J, E>> = Arc::new(
         alloc,
-        router,
-        &plan.opening,
-        plan.links.as_slice(),
-        plan.domain,
-        Beginning::now(rt, version, digest),
-        log,
-        errors,
+        shared_of(
+            alloc,
+            router,
+            &plan.opening,
+            plan.links.as_slice(),
+            plan.domain,
+            Beginning::now(rt, version, digest),
+            log,
+            errors,
+        )?,
     )?;
-    Ok(Arc::new(alloc, shared)?)
+    Ok(shared)
 }
 
 /// Makes what a router needs before a thread of its own runs. The first segment of its history is made, if that is saved.
