@@ -39,8 +39,8 @@ SHOWN = (
     ("docs/SESSIONS.md", "", r"(?ms)^/// A link over two streams\..*?^}\n\nimpl.*?^}\n", "tests/calls/channels.rattle"),
     ("docs/EMBEDDING.md", "    ", r"(?ms)^/// The metric that a filter gives a route .*?^}\n", "tests/calls/embedding_tests.rattle"),
 )
-# What docs/PROMISES.md names beside what the sources define: commands and programs, a mark, a variable, a field, and a trait of Rust.
-OTHER_NAMES = set("changes diff eval failures history json kill lint socat test NCF2 NCROUTE_SIZE unsent Send".split())
+# What docs/PROMISES.md names beside what the sources define: commands and programs, a mark, a variable, a field, and traits of Rust and of the kit.
+OTHER_NAMES = set("changes diff eval failures history json kill lint socat test NCF2 NCROUTE_SIZE unsent Send Wait".split())
 # A filter that is refused.
 MISTAKE = "filter mistake { acept; }"
 SIZE = 8

@@ -51,8 +51,8 @@ PROTOCOL, BASE, FOREIGN = "77", 200, "10.200.0.0/16"
 PATIENCE, LOST = 240.0, 1
 
 # Seconds: pings are answered again half a second after a cut, and a second after the HOLD of a silent neighbour. On a busy machine that may take
-# longer: what takes ten times as long, and ten times as long as a sleep was late, has failed. A neighbour is found silent after two thirds of its HOLD at
-# the earliest, so a cut is not taken for a silence where the HOLD is 9.
+# longer: what takes ten times as long, and ten times as long as a sleep was late, has failed. A neighbour is found silent after two thirds of its
+# HOLD at the earliest, so a cut is not taken for a silence where the HOLD is 9.
 AFTER_A_CUT, AFTER_A_SILENCE, TIMES_LONGER = 0.5, 1.0, 10
 
 # Seconds: for so long the feed of a router that has ended is still there, as with systemd; a feed is followed within a second or two, and at least so

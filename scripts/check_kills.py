@@ -211,11 +211,11 @@ def main(runs=200, long_runs=10, seed=1):
     # Where nothing was known so long before, nothing has to be there. Of the short runs that is so in about half.
     telling, late = (sum(it) for it in zip((0, 0), *((left.known > 0, left.saved < left.known) for left in found)))
     counts.judge("all runs", telling < len(found) // 8 and f"only in {telling} of {len(found)} something was known a second before")
-    counts.judge("a second before", 2 * late > telling and f"in {late} of {telling} runs not all was saved that was known a second before")
+    counts.judge("a second before", 2 * late > telling and f"in {late} of {telling} runs not all was saved that was known so long before")
     cut, told = (sum(it) for it in zip((0, 0), *((left.is_cut, left.told > 0) for left in found)))
     later, removed = (sum(it) for it in zip((0, 0), *((left.saved > 1_000_000, left.first > 0) for left in found[runs:])))
     print(f"{cut} of {len(found)} were cut within a line, and in {told} the router had said that something is saved; in {telling} something was "
-          f"known a second before, of which not all was saved in {late}; of the long ones {later} had a second segment, and {removed} had removed one")
+          f"known a second before, and not all of it was saved in {late}; of the long ones {later} had a second segment, {removed} had removed one")
     counts.finish()
 
 

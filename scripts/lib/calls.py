@@ -1,5 +1,5 @@
-"""The programs that are made of what carries no promise: the tests of tests/calls/ and the benches of bench/parts/. They are built without proofs, once
-for all parts of the test command."""
+"""The programs that are made of what carries no promise: the tests of tests/calls/ and the benches of bench/parts/. They are built without proofs,
+once for all parts of the test command."""
 import os
 import re
 import subprocess
@@ -12,7 +12,7 @@ PLACES = {"test_calls": "TEST_CALLS", "bench_parts": "BENCH_PARTS"}
 
 
 class NotBuilt(Exception):
-    """What is said of sources that do not compile."""
+    """What is said of sources that do not compile, or by what is no program of them."""
 
 
 def built(name, folder):
@@ -31,5 +31,8 @@ def built(name, folder):
 
 def listed(tests):
     """The names of the built tests."""
-    said = subprocess.run([tests, "--list"], stdin=subprocess.DEVNULL, capture_output=True, check=True)
-    return re.findall(r"(?m)^(.+): test$", (said.stdout + said.stderr).decode())
+    ran = subprocess.run([tests, "--list"], stdin=subprocess.DEVNULL, stdout=subprocess.PIPE, stderr=subprocess.STDOUT)
+    said = ran.stdout.decode(errors="replace")
+    if ran.returncode:
+        raise NotBuilt(f"{tests} does not list its tests: status {ran.returncode}\n{said}")
+    return re.findall(r"(?m)^(.+): test$", said)

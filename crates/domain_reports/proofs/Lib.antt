@@ -1,3 +1,4 @@
 pub mod Floats
 pub mod Joining
+pub mod Listing
 pub mod Unbracketing

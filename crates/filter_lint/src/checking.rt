@@ -7,7 +7,7 @@ ghost use Rattle.filter_lint.specs.Checking as spec;
 
 use crate::linting::{host_bits_lines, warn};
 use filter_reports::{
-    Checked, NamedText, Report, SurveyedSource, Wording, check_finding, check_text, notice_if,
+    Checked, NamedText, Report, SurveyedSource, Wording, check_finding, check_source, notice_if,
     status_of_found, written_lines,
 };
 use filter_source::Diagnosis;
@@ -153,7 +153,7 @@ pub fn check_report(
 ) -> Result<Report, AllocError>
     ensures { IfOk result (λ report. spec.IsCheckReport how (named source.now) (report_of report)) }
 {
-    let Checked { lines, verdict } = check_text(alloc, source.text, how.size, how.is_code)?;
+    let Checked { lines, verdict } = check_source(alloc, source.text, how.size, how.is_code)?;
     match verdict {
         Ok(surveyed) => verified_report(alloc, how, source, lines, &surveyed),
         Err(why) => plain_report(alloc, how, source, lines, &Some(why)),

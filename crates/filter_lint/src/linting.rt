@@ -21,7 +21,8 @@ use crate::surveyed_filter::SurveyedFilter;
 use crate::warning::Warning;
 use crate::warning_lines::{host_bits_text, warnings_text};
 use filter_reports::{
-    Checked, FAILED, FAULT, NamedText, Report, SurveyedSource, Wording, check_text, refusal_report,
+    Checked, FAILED, FAULT, NamedText, Report, SurveyedSource, Wording, check_source,
+    refusal_report,
 };
 use filter_tokens::Token;
 use prefix_patterns::PatternSet;
@@ -157,7 +158,7 @@ pub fn lint_report(
 ) -> Result<Report, AllocError>
     ensures { IfOk result (λ report. spec.IsLintReport how.now (named source.now) (report_of report)) }
 {
-    let Checked { verdict, .. } = check_text(alloc, source.text, how.size, false)?;
+    let Checked { verdict, .. } = check_source(alloc, source.text, how.size, false)?;
     match verdict {
         Ok(surveyed) => lint_verified(alloc, how, source, &surveyed),
         Err(why) => {

@@ -15,3 +15,4 @@ pub mod TextFiles
 pub mod TextLines
 pub mod TextMembers
 pub mod VerifiedFilters
+pub mod WholeInput

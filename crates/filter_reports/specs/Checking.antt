@@ -1,6 +1,8 @@
 -- What comes of a source that is checked (this project's own choice).
-use Rattle.std.specs.Prelude.{◌≡◌, ◌⊎◌, ◌<◌, ◌++◌, ℕ, Bool, true, false, List, [], length, Option, Some, None, Result, Ok, Err, IfOk, IfErr, ⊤}
+use Rattle.std.specs.Prelude.{◌≡◌, ◌⊎◌, ◌<◌, ◌≤◌, ◌+◌, ◌++◌, ℕ, Bool, true, false, List, [], length, Option, Some, None, Result, Ok, Err, IfOk, IfErr, ⊤}
+use Rattle.std.specs.Io.KnownBytes.{Appends, Consumes}
 use Rattle.filter_code.specs.CodeView.{CodeView}
+use Rattle.filter_source.specs.Limits.{source_limit}
 use Rattle.filter_source.specs.BoundsLine.{bounds_line}
 use Rattle.filter_source.specs.Diagnoses.{TellsOfCode, TellsOfSource, of_code}
 use Rattle.filter_source.specs.Refusals.{place_in_line, refusal_code}
@@ -20,6 +22,9 @@ use Rattle.filter_verifier.specs.declared.fault.Unverified.{Unverified}
 use Rattle.filter_verifier.specs.declared.survey.RunBounds.{RunBounds}
 use Rattle.filter_verifier.specs.declared.survey.Survey.{Survey}
 use Rattle.line_protocol.specs.Answers.{refusal}
+use Rattle.line_protocol.specs.Runs.{AppendsFront}
+use Rattle.line_protocol.specs.declared.faults.StreamFault.{StreamFault}
+use Rattle.line_protocol.specs.declared.faults.StreamFault.TheVariants.{Read, Write, Memory, TooLong}
 use Rattle.filter_reports.specs.Check.{AreLines, GivesCode, IsRefused, LinesView}
 use Rattle.filter_reports.specs.declared.check.Checked.{Checked}
 use Rattle.filter_reports.specs.declared.check.SurveyedSource.{SurveyedSource}
@@ -98,3 +103,30 @@ pub record IsChecked (size : ℕ) (is_code : Bool) (source : List ℕ) (checked 
   pub ends : EndsWith (why_in checked.verdict) checked.lines.items
   pub diagnosed : IfErr checked.verdict (IsDiagnosis size is_code source)
   pub verified : IfOk checked.verdict (IsVerifiedSource size is_code source)
+
+-- An input was read and checked to its end: the lines on it were written, and nothing else. `input` is all that the reader had, `left` what it has now;
+-- `held` and `holds` are what the writer held before and holds now; `refused` is the number that was returned.
+pub record Checks (size : ℕ) (is_code : Bool) (input : List ℕ) (left held holds : Option (List ℕ)) (refused : ℕ) : Type 0 where
+  pub lines : LinesView
+  pub are_lines : AreLines size is_code input lines
+  pub written : Appends held holds lines.text
+  pub counted : refused ≡ lines.refusals
+  pub read : List ℕ
+  pub consumed : Consumes (Some input) left read
+  -- nothing is read after the first byte over the limit
+  pub within : length read ≤ source_limit + 1
+  pub to_end : length input ≤ source_limit → left ≡ Some []
+
+-- what was written where a fault ended the run: nothing; a writer that failed has a front of the lines
+abbrev pub IsCutOff : StreamFault → ℕ → Bool → List ℕ → Option (List ℕ) → Option (List ℕ) → Type 0
+IsCutOff Read size is_code input held holds = Appends held holds []
+IsCutOff Write size is_code input held holds = (lines : LinesView) × AreLines size is_code input lines × AppendsFront held holds lines.text
+IsCutOff Memory size is_code input held holds = Appends held holds []
+IsCutOff TooLong size is_code input held holds = ⊥
+
+-- A fault ended the run. The names are those of `Checks`.
+pub record ChecksOff (fault : StreamFault) (size : ℕ) (is_code : Bool) (input : List ℕ) (left held holds : Option (List ℕ)) : Type 0 where
+  pub written : IsCutOff fault size is_code input held holds
+  pub read : List ℕ
+  pub consumed : Consumes (Some input) left read
+  pub within : length read ≤ source_limit + 1

@@ -1,22 +1,27 @@
 //! How a source is checked: a filter's text, or a code file, becomes code, and the verifier judges the code.
 //!
 //! **A source is parsed once and its code swept once**, whatever is said of it: the lines of `check` and the warnings of `lint` follow from one survey.
-ghost use Rattle.std.specs.Prelude.{◌≡◌, ℕ, Bool, List, IfErr, IfOk, OnOk};
+ghost use Rattle.std.specs.Prelude.{◌≡◌, ℕ, Bool, List, IfErr, IfOk, IfSome, OnOk};
 ghost use Rattle.code_file.specs.Spelling.{IsCode};
 ghost use Rattle.filter_source.specs.Diagnoses.{TellsOfSource};
 ghost use Rattle.filter_source.specs.Failures.{OnDiagnosis, OnRefusal};
 ghost use Rattle.filter_reports.specs.Check.{GivesCode, IsRefused, code_line, without_white_end};
-ghost use Rattle.filter_reports.specs.Checking.{ArePlaces, AreTokens, EndsLines, IsChecked, IsSurvey, judged};
+ghost use Rattle.filter_reports.specs.Checking.{ArePlaces, AreTokens, Checks, ChecksOff, EndsLines, IsChecked, IsSurvey, judged};
+ghost use Rattle.filter_reports.specs.Faults.{stream_fault};
 ghost use Rattle.filter_tokens.specs.Tokenization.{is_space};
 
+use crate::fault::ProgramFault;
 use crate::lines::{Lines, end_lines, line_of_code, refusal_lines};
 use filter_code::Code;
 use filter_source::{
-    CompiledSource, Diagnosis, Failure, check_length, compile_text_mapped, read_hexadecimal,
+    CompiledSource, Diagnosis, Failure, SOURCE_LIMIT, check_length, compile_text_mapped,
+    read_hexadecimal,
 };
 use filter_tokens::Token;
 use filter_verifier::{Survey, survey_code};
+use line_protocol::{read_input, write_text};
 use std::alloc::{AllocError, Global};
+use std::io::{Read, Write};
 
 /// A text without the spaces, tabs, carriage returns and line feeds at its end.
 fn trim_white_end(text: &[u8]) -> &[u8]
@@ -145,7 +150,7 @@ fn check_refused(alloc: Global, diagnosis: &Diagnosis) -> Result<Checked, AllocE
 }
 
 /// Checks a filter's text, or a code file in hexadecimal where `is_code` says so, for domains of `size` nodes.
-pub fn check_text(
+pub fn check_source(
     alloc: Global,
     source: &[u8],
     size: u32,
@@ -157,5 +162,28 @@ pub fn check_text(
         Ok(surveyed) => check_surveyed(alloc, surveyed),
         Err(Failure::Refused(diagnosis)) => check_refused(alloc, &diagnosis),
         Err(Failure::Memory) => Err(AllocError),
+    }
+}
+
+/// Reads a filter's text, or a code file in hexadecimal where `is_code` says so, checks it for domains of `size` nodes, and writes the lines of the report
+/// on it. Returns how many of them refuse it: none or one.
+pub fn check_text<R: Read, W: Write>(
+    alloc: Global,
+    reader: &mut R,
+    writer: &mut W,
+    size: u32,
+    is_code: bool,
+) -> Result<u32, ProgramFault>
+    ensures finished { IfOk result (λ refused. IfSome (R.remaining reader.old) (λ input.
+        Checks size is_code input (R.remaining reader.new) (W.contents writer.old) (W.contents writer.new) refused)) }
+    ensures broken_off { IfErr result (λ fault. IfSome (R.remaining reader.old) (λ input.
+        ChecksOff (stream_fault fault) size is_code input (R.remaining reader.new) (W.contents writer.old) (W.contents writer.new))) }
+{
+    let input = read_input(alloc, reader, SOURCE_LIMIT)?;
+    let checked = check_source(alloc, input.as_slice(), size, is_code)?;
+    write_text(writer, checked.lines.as_slice())?;
+    match checked.verdict {
+        Ok(_) => Ok(0),
+        Err(_) => Ok(1),
     }
 }

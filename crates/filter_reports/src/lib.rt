@@ -31,7 +31,7 @@ mod rewrite;
 mod status;
 mod wording;
 
-pub use check::{Checked, SurveyedSource, check_text, code_of};
+pub use check::{Checked, SurveyedSource, check_source, check_text, code_of};
 pub use fault::ProgramFault;
 pub use laws::{
     printed_code_is_checked_alike, translations_fit_a_line, verified_code_says_the_same,

@@ -3,7 +3,8 @@
 use Rattle.std.specs.Prelude.{◌≡◌, ℕ, Bool, true, false, List, Option, Some, None, slice_get}
 use Rattle.filter_code.specs.CodeView.{CodeView}
 use Rattle.expression_parser.specs.Codes as parse
-use Rattle.filter_syntax.specs.Surroundings as parser
+use Rattle.filter_parser.specs.Telling as parser
+use Rattle.filter_syntax.specs.Surroundings.{nothing}
 use Rattle.filter_syntax.specs.declared.around.Around.{Around}
 use Rattle.filter_types.specs.Codes as types
 use Rattle.filter_verifier.specs.Faults.{fault_place}
@@ -33,18 +34,18 @@ of_source why around = record { refusal = why; byte = named_byte why; range = No
 abbrev pub TellsRound : List ℕ → Refusal → Around → Type 0
 TellsRound text (Parse why) around = parser.TellsRound text why around
 TellsRound text (Typing why) around = parser.StandsRound text (types.fault_place why) around
-TellsRound text TooLong around = around ≡ parser.nothing
-TellsRound text Hexadecimal around = around ≡ parser.nothing
-TellsRound text (File why) around = around ≡ parser.nothing
-TellsRound text (Compile why) around = around ≡ parser.nothing
-TellsRound text (Verify why) around = around ≡ parser.nothing
+TellsRound text TooLong around = around ≡ nothing
+TellsRound text Hexadecimal around = around ≡ nothing
+TellsRound text (File why) around = around ≡ nothing
+TellsRound text (Compile why) around = around ≡ nothing
+TellsRound text (Verify why) around = around ≡ nothing
 
 -- This is told of a text that gives no code, and of a code file that gives none.
 abbrev pub TellsOfText : List ℕ → Diagnosis → Type 0
 TellsOfText text diagnosis = (diagnosis ≡ of_source diagnosis.refusal diagnosis.around) × TellsRound text diagnosis.refusal diagnosis.around
 
 abbrev pub TellsOfFile : Diagnosis → Type 0
-TellsOfFile diagnosis = diagnosis ≡ of_source diagnosis.refusal parser.nothing
+TellsOfFile diagnosis = diagnosis ≡ of_source diagnosis.refusal nothing
 
 -- the same of a source that is the one or the other
 abbrev pub TellsOfSource : Bool → List ℕ → Diagnosis → Type 0
@@ -65,7 +66,7 @@ place_of places (Some at) = slice_get places at
 -- what is told of code whose instructions come from these places of a text; a code file has no places
 abbrev pub of_code : VerifyFault → Option RangeView → List ℕ → Diagnosis
 of_code why range places =
-    record { refusal = Verify why; byte = place_of places (refused_instruction why); range = range; around = parser.nothing }
+    record { refusal = Verify why; byte = place_of places (refused_instruction why); range = range; around = nothing }
 
 -- This is told of code that is refused for domains of a size: the part of the text that gave the instruction, and the range that the
 -- verifier knows there.

@@ -5,7 +5,6 @@ pub mod Again
 pub mod Lines
 pub mod Whole
 pub mod Turns
-pub mod Fronts
 pub mod Judged
 pub mod Rows
 pub mod Chained

@@ -1,14 +1,16 @@
 //! The object that tells what a router is about.
 ghost use Rattle.std.specs.Prelude.{◌≡◌, ◌++◌, IfOk, OnErr, OnOk, false, map};
 ghost use Rattle.std.specs.Io.{StartsWith};
-ghost use Rattle.serde_json.specs.View.{items_view, view};
+ghost use Rattle.serde_json.specs.Data.{array};
+ghost use Rattle.serde_json.specs.View.{view};
 ghost use Rattle.serde_json.specs.Written.{has_float};
 ghost use Rattle.router_status.specs.Lines.{text_of};
 ghost use Rattle.router_status.specs.Objects as spec;
 ghost use Rattle.router_status.specs.Status.{link_view, name_of, named_view_of, status_view};
 
 use crate::status::{FilterStatus, LinkState, LinkStatus, NamedFilter, Status};
-use serde_json::{Value, json};
+use report_formats::ObjectBuilder;
+use serde_json::Value;
 use std::alloc::{AllocError, Global};
 
 /// A text.
@@ -81,11 +83,12 @@ fn filter_value(
 ) -> Result<Value, AllocError>
     ensures { IfOk result (λ value. view value ≡ spec.filter_data filter (name_of filter (named_view_of named.now))) }
 {
-    let accepted = u64::from(filter.accepted);
-    let budget = u64::from(filter.budget);
-    let name = filter_name(alloc, filter, named)?;
-    let rejected = u64::from(filter.rejected);
-    json!(in alloc; {"accepted": accepted, "budget": budget, "name": name, "rejected": rejected})
+    ObjectBuilder::new(alloc)
+        .member("accepted", Value::from(filter.accepted))
+        .member("budget", Value::from(filter.budget))
+        .try_member("name", filter_name(alloc, filter, named))
+        .member("rejected", Value::from(filter.rejected))
+        .finish()
 }
 
 /// What a filter does as an object, if there is one.
@@ -106,55 +109,57 @@ fn filter_or_null(
 fn link_value(alloc: Global, link: &LinkStatus) -> Result<Value, AllocError>
     ensures { IfOk result (λ value. view value ≡ spec.link_data (link_view link.now)) }
 {
-    let ended = text_or_null(alloc, &link.ended)?;
-    let export = filter_or_null(alloc, link.export_status, &link.export_named)?;
-    let import = filter_or_null(alloc, link.import_status, &link.import_named)?;
-    let node = u64::from(link.node);
-    let received = link.received;
-    let sent = link.sent;
-    let session = number_or_null(session_in(link.state));
-    let sessions = link.sessions;
-    let since = link.since;
-    let state = state_word(link.state);
-    let unheard = number_or_null(link.unheard);
-    let waiting = link.waiting;
-    json!(in alloc; {
-        "ended": ended, "export": export, "import": import, "node": node, "received": received, "sent": sent,
-        "session": session, "sessions": sessions, "since": since, "state": state, "unheard": unheard, "waiting": waiting
-    })
+    ObjectBuilder::new(alloc)
+        .try_member("ended", text_or_null(alloc, &link.ended))
+        .try_member(
+            "export",
+            filter_or_null(alloc, link.export_status, &link.export_named),
+        )
+        .try_member(
+            "import",
+            filter_or_null(alloc, link.import_status, &link.import_named),
+        )
+        .member("node", Value::from(link.node))
+        .member("received", Value::from(link.received))
+        .member("sent", Value::from(link.sent))
+        .member("session", number_or_null(session_in(link.state)))
+        .member("sessions", Value::from(link.sessions))
+        .member("since", Value::from(link.since))
+        .try_member("state", text_value(alloc, state_word(link.state)))
+        .member("unheard", number_or_null(link.unheard))
+        .member("waiting", Value::from(link.waiting))
+        .finish()
 }
 
 /// The links as an array.
-fn link_values(alloc: Global, links: &[LinkStatus]) -> Result<Vec<Value>, AllocError>
-    ensures { IfOk result (λ values. items_view values.items ≡ spec.links_data (map link_view links.now)) }
+fn links_value(alloc: Global, links: &[LinkStatus]) -> Result<Value, AllocError>
+    ensures { IfOk result (λ value. view value ≡ array (spec.links_data (map link_view links.now))) }
 {
     let mut values = Vec::with_capacity(alloc, links.len())?;
     for link in links {
         values.push(link_value(alloc, link)?)?;
     }
-    Ok(values)
+    Ok(Value::Array(values))
 }
 
 /// The router as an object.
 fn status_value(alloc: Global, status: &Status) -> Result<Value, AllocError>
     ensures { IfOk result (λ value. view value ≡ spec.status_data (status_view status.now)) }
 {
-    let bytes = number_or_null(status.bytes);
-    let domain = text_or_null(alloc, &status.domain)?;
-    let entries = status.entries;
-    let forgotten = status.forgotten;
-    let links = Value::Array(link_values(alloc, status.links.as_slice())?);
-    let node = u64::from(status.node);
-    let room = u64::from(status.room);
-    let saved = number_or_null(status.saved);
-    let segments = number_or_null(status.segments);
-    let size = u64::from(status.size);
-    let up = status.up;
-    let version = text_value(alloc, status.version)?;
-    json!(in alloc; {
-        "bytes": bytes, "domain": domain, "entries": entries, "forgotten": forgotten, "links": links, "node": node,
-        "room": room, "saved": saved, "segments": segments, "size": size, "up": up, "version": version
-    })
+    ObjectBuilder::new(alloc)
+        .member("bytes", number_or_null(status.bytes))
+        .try_member("domain", text_or_null(alloc, &status.domain))
+        .member("entries", Value::from(status.entries))
+        .member("forgotten", Value::from(status.forgotten))
+        .try_member("links", links_value(alloc, status.links.as_slice()))
+        .member("node", Value::from(status.node))
+        .member("room", Value::from(status.room))
+        .member("saved", number_or_null(status.saved))
+        .member("segments", number_or_null(status.segments))
+        .member("size", Value::from(status.size))
+        .member("up", Value::from(status.up))
+        .try_member("version", text_value(alloc, status.version))
+        .finish()
 }
 
 /// Adds the line of a value without floats.

@@ -7,6 +7,7 @@ ghost use Rattle.router_status.specs.Objects as spec;
 use crate::object::{number_or_null, push_line};
 use netchange_core::{Tables, Via};
 use prefix_patterns::Prefix;
+use report_formats::ObjectBuilder;
 use serde_json::{Value, json};
 use std::alloc::{AllocError, Global};
 
@@ -33,12 +34,16 @@ fn route_value(alloc: Global, tables: &Tables, node: u16) -> Result<Value, Alloc
     ensures { IfOk result (λ value. view value ≡ spec.route_data tables.now node) }
 {
     let route = tables.route(node);
-    let distance = u64::from(route.dist);
-    let to = u64::from(node);
-    let prefix = prefix_value(alloc, tables.opening().prefixes()[usize::from(node)])?;
+    let prefix = tables.opening().prefixes()[usize::from(node)];
     let reachable = route.dist < tables.opening().size();
     let via = number_or_null(next_hop(route.via));
-    json!(in alloc; {"distance": distance, "node": to, "prefix": prefix, "reachable": reachable, "via": via})
+    ObjectBuilder::new(alloc)
+        .member("distance", Value::from(route.dist))
+        .member("node", Value::from(node))
+        .try_member("prefix", prefix_value(alloc, prefix))
+        .member("reachable", Value::from(reachable))
+        .member("via", via)
+        .finish()
 }
 
 /// The routes to all nodes as an array.

@@ -2,6 +2,9 @@ use Rattle.std.proofs.Common.{◌≡◌, ◌∙◌, List, None, Some, ap, length
 use Rattle.expression_parser.specs.Codes.{LiesWithin}
 use Rattle.filter_tokens.specs.Lexemes.{lexemes}
 use Rattle.filter_tokens.specs.declared.token.Token.{Token}
+use Rattle.filter_syntax.specs.Placed.{IsPlaced}
+use Rattle.filter_syntax.specs.SyntaxText.{IsText, view_filter}
+use Rattle.filter_syntax.specs.declared.tree.filter.Filter.{Filter}
 use Rattle.filter_parser.specs.Heads.{AreTokensOf, HasHead, with_head}
 use Rattle.filter_parser.specs.declared.unparsed.Unparsed.{Unparsed}
 use Rattle.filter_parser.proofs.Heads.{cut, has_head, head_memory, head_within, stops_within}
@@ -12,13 +15,14 @@ use Rattle.filter_parser.proofs.text.filter_of_tokens.Goals as goal
 
 pub returns-in-None-clause-found : goal.returns-in-None-clause-found
 returns-in-None-clause-found c =
-    text_found c.args.text.now c.args.tokens.items (view_parts c.in-Ok.parts) c.requires.size (c.requires.cut c.in-None.is)
-    (rw (c.as_slice.ensures.value) at c.in-Ok.ensures.reads)
+    subst (λ (filter : Filter). IsText c.args.text.now (view_filter filter)) (sym c.new.ensures)
+    (text_found c.args.text.now c.args.tokens.items (view_parts c.in-Ok.parts) c.requires.size (c.requires.cut c.in-None.is)
+    (rw (c.as_slice.ensures.value) at c.in-Ok.ensures.reads))
 
 pub returns-in-None-clause-unique : goal.returns-in-None-clause-unique
 returns-in-None-clause-unique c = λ t is.
     text_once c.args.text.now c.args.tokens.items (view_parts c.in-Ok.parts) t (rw (c.as_slice.ensures.value) at c.in-Ok.ensures.reads) is
-    (c.requires.only t.tokens is.cut).1
+    (c.requires.only t.tokens is.cut).1 ∙ ap view_filter (sym c.new.ensures)
 
 pub returns-in-Some-clause-refused : goal.returns-in-Some-clause-refused
 returns-in-Some-clause-refused c = λ other t is.
@@ -35,7 +39,8 @@ returns-in-Err-clause-refused c = λ other t is.
     absurd (cc)
 
 pub returns-in-None-clause-placed : goal.returns-in-None-clause-placed
-returns-in-None-clause-placed c = rw (c.as_slice.ensures.value) at c.in-Ok.ensures.placed
+returns-in-None-clause-placed c =
+    subst (λ (filter : Filter). IsPlaced c.args.text.now filter) (sym c.new.ensures) (rw (c.as_slice.ensures.value) at c.in-Ok.ensures.placed)
 
 pub returns-in-Err-clause-within : goal.returns-in-Err-clause-within
 returns-in-Err-clause-within c =

@@ -1,5 +1,5 @@
 use Rattle.std.specs.Io.{StartsWith}
-use Rattle.history_file.proofs.Fronts.{err_weaker, longer_front}
+use Rattle.history_lines.proofs.Fronts.{err_weaker, longer_front}
 use Rattle.history_file.proofs.state.push_node.Goals as goal
 
 pub returns-clause-err : goal.returns-clause-err

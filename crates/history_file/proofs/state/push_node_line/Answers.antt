@@ -1,6 +1,6 @@
 use Rattle.std.specs.Io.{StartsWith}
 use Rattle.netchange_core.specs.Kept.{view_of}
-use Rattle.history_file.proofs.Fronts.{err_always, err_weaker, longer_front}
+use Rattle.history_lines.proofs.Fronts.{err_always, err_weaker, longer_front}
 use Rattle.history_file.proofs.States.{node_added}
 use Rattle.history_file.proofs.state.push_node_line.Goals as goal
 

@@ -1,6 +1,6 @@
 use Rattle.std.proofs.Common.{codes}
 use Rattle.std.specs.Io.{StartsWith}
-use Rattle.history_file.proofs.Fronts.{err_weaker, longer_front}
+use Rattle.history_lines.proofs.Fronts.{err_weaker, longer_front}
 use Rattle.history_file.proofs.States.{queue_added}
 use Rattle.history_file.proofs.state.push_queue.Goals as goal
 

@@ -1,7 +1,7 @@
 use Rattle.std.proofs.Common.{◌++◌, ◌<◌, ◌^◌, length, subst, ◌∙◌, ap, arith}
 use Rattle.std.proofs.lemmas.List.{length-map}
 use Rattle.std.specs.Io.{StartsWith}
-use Rattle.history_file.proofs.Fronts.{err_always, longer_front}
+use Rattle.history_lines.proofs.Fronts.{err_always, longer_front}
 use Rattle.history_file.proofs.States.{state_added}
 use Rattle.history_lines.specs.Fits.{FitsOpening}
 use Rattle.history_file.specs.Numbering.{rows_text, texts_of}

@@ -1,5 +1,5 @@
 use Rattle.std.specs.Io.{StartsWith}
-use Rattle.history_file.proofs.Fronts.{err_always, longer_front}
+use Rattle.history_lines.proofs.Fronts.{err_always, longer_front}
 use Rattle.history_file.proofs.verdict.push_verdict.Goals as goal
 
 pub returns-in_err-push_reply-in-Differs-2-clause-err : goal.returns-in_err-push_reply-in-Differs-2-clause-err

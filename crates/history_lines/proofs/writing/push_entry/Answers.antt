@@ -1,6 +1,6 @@
 use Rattle.std.proofs.Common.{decimal}
 use Rattle.std.specs.Io.{StartsWith}
-use Rattle.history_file.proofs.Fronts.{err_weaker, longer_front}
+use Rattle.history_lines.proofs.Fronts.{err_weaker, longer_front}
 use Rattle.history_lines.specs.Text.{event_words, spaced}
 use Rattle.history_lines.specs.Views.{event_view}
 use Rattle.history_lines.proofs.writing.push_entry.Goals as goal
